@@ -1,0 +1,7 @@
+// The laws of rules.
+ghost use Rattle.rules.specs.Laws.{Keeping-reads};
+
+// What it is to keep a rule, said for each kind as the plain sentence says it.
+pub fn keeping_reads()
+    ensures { λ _. ⌜ Keeping-reads ⌝ }
+{}

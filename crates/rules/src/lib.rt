@@ -1,0 +1,5 @@
+// What rules mean, and the one trait through which all code asks a book of them.
+pub mod book;
+pub mod laws;
+pub mod refusal;
+pub mod term;
