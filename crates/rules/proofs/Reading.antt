@@ -4,15 +4,11 @@ use mathlib.Core.List.{List, map, Memᴰ·map, Memᴰ·of-map}
 use mathlib.Core.Logic.{_↔_}
 use Prim.Native.Nat.{ℕ}
 use Rattle.rules.specs.declared.term.Term.{Term}
-use Rattle.rules.specs.declared.term.Term.the-variants.{Constant, Variable}
+use Rattle.rules.specs.declared.term.Term.the-variants.{Variable}
 use Rattle.rules.specs.declared.term.Kind.the-variants.{Functional, Equality}
 use Rattle.rules.specs.Rules.{_∈_, Relation, Pattern, Valuation, at, Places, Keeps}
 use Rattle.rules.specs.Laws.{Keeping-reads}
-
--- valuations that agree everywhere give each term one number
-at-same : (f g : Valuation) → ((v : ℕ) → f v ≡ g v) → (t : Term) → at f t ≡ at g t
-at-same f g same (Constant c) = refl
-at-same f g same (Variable v) = same v
+use Rattle.rules.proofs.Doubles.{at-same}
 
 abbrev twice : ℕ → Term × Term
 twice v = (Variable v, Variable v)

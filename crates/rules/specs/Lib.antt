@@ -1,3 +1,4 @@
 pub mod Rules
 pub mod Books
 pub mod Laws
+pub mod Doubled
