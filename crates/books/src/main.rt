@@ -1,0 +1,69 @@
+// Joins a sheet and a key list, and lists the book that they make.
+mod input;
+mod listing;
+use input::key_list;
+use input::sheet_words;
+use joins::joined::Joined;
+use joins::joined::JoinedBook;
+use joins::joined::check_join;
+use keys::key_list::KeyList;
+use keys::key_list::KeyListBook;
+use listing::print_book;
+use listing::print_refusal;
+use rules::book::Book;
+use rules::book::LentBook;
+use sheets::sheet::Sheet;
+use sheets::sheet::SheetBook;
+use std::error::AnyError;
+use std::io;
+
+fn main(rt: LibcRuntime) -> Result<(), AnyError> {
+    rt.report(run(&rt))
+}
+
+fn run(rt: &LibcRuntime) -> Result<(), AnyError> {
+    let text = io::read_to_string(rt.alloc(), rt.stdin())?;
+    let mut lines = text.as_str().lines();
+    let first = lines.next().unwrap_or("");
+    let second = lines.next().unwrap_or("");
+    for line in lines {
+        if !line.trim().is_empty() {
+            return Err("line 3: a sheet and a key list are two lines, and nothing follows them".into());
+        }
+    }
+    list(rt, first, second)
+}
+
+fn list(rt: &LibcRuntime, first: &str, second: &str) -> Result<(), AnyError> {
+    let words = sheet_words(rt.alloc(), first)?;
+    let words = words.as_slice();
+    if let Err(fault) = sheets::sheet::check(words) {
+        return print_refusal(rt, fault.refusal());
+    }
+    let sheet = Sheet::open(words);
+    if second.trim().is_empty() {
+        print_book(rt, &sheet)?;
+        return print_sum(rt, sheet.width(), sheet.count(), None);
+    }
+    let (width, bytes) = key_list(rt.alloc(), second)?;
+    let bytes = bytes.as_slice();
+    if let Err(fault) = keys::key_list::check(width, bytes) {
+        return print_refusal(rt, fault.refusal());
+    }
+    let keys = KeyList::open(width, bytes);
+    if let Err(fault) = check_join(&sheet, &keys) {
+        return print_refusal(rt, fault.refusal());
+    }
+    print_book(rt, &Joined { first: &sheet, second: &keys })?;
+    print_sum(rt, sheet.width(), sheet.count(), Some(keys.count()))
+}
+
+fn print_sum(rt: &LibcRuntime, width: usize, sheet: usize, keys: Option<usize>) -> Result<(), AnyError> {
+    let noun = if sheet == 1 { "rule" } else { "rules" };
+    print!(rt, "width {width}: {sheet} {noun} from the sheet")?;
+    if let Some(n) = keys {
+        print!(rt, ", {n} from the key list")?;
+    }
+    println!(rt, "")?;
+    Ok(())
+}
