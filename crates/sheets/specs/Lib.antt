@@ -1,0 +1,9 @@
+pub mod Walk
+pub mod Layout
+pub mod Reads
+pub mod Slots
+pub mod Wholes
+pub mod Lays
+pub mod Wells
+pub mod Laws
+pub mod Worked
