@@ -15,7 +15,7 @@ use Rattle.std.specs.declared.result.Result.the-variants.{Ok, Err}
 use Rattle.sheets.specs.Walk.{Out, then, wordIn, passes, each, part, mostLeft, pairSize, pairWant, listsEnd, ruleEnd, rulesEnd, sheetEnd}
 use Rattle.sheets.specs.declared.fault.BookFault.{BookFault}
 use Rattle.sheets.specs.declared.want.Want.{Want}
-use Rattle.sheets.specs.declared.want.Want.the-variants.{Entry, Left, Side}
+use Rattle.sheets.specs.declared.want.Want.the-variants.{Entry, Listed, Side}
 
 then-cond : (b : Bool) (w : ℕ) (g : BookFault) (f : ℕ → Out ℕ) → then (cond b (Ok w) (Err g)) f ≡ cond b (f w) (Err g)
 then-cond true w g f = refl
@@ -59,8 +59,8 @@ module _ (words : List ℕ) where
   ends-pairs : (rows : List ℕ) (kind at : ℕ) → at ≤ length words → Ends at (pairsEnd words rows kind at)
   ends-pairs rows kind at l = ends-word 0 32 at _ l (λ pairs c. ends-each (pairWant kind) rows (pairs * pairSize kind) (at + 1) c)
 
-  ends-left : (rows : List ℕ) (kind lefts at : ℕ) → at ≤ length words → Ends at (then (each Left rows words lefts at) (λ next. pairsEnd words rows kind next))
-  ends-left rows kind lefts at l = ends-then at (each Left rows words lefts at) _ (ends-each Left rows lefts at l) (λ next b. ends-pairs rows kind next b)
+  ends-left : (rows : List ℕ) (kind lefts at : ℕ) → at ≤ length words → Ends at (then (each Listed rows words lefts at) (λ next. pairsEnd words rows kind next))
+  ends-left rows kind lefts at l = ends-then at (each Listed rows words lefts at) _ (ends-each Listed rows lefts at l) (λ next b. ends-pairs rows kind next b)
 
   ends-lists : (rows : List ℕ) (kind at : ℕ) → at ≤ length words → Ends at (listsEnd words rows kind at)
   ends-lists rows kind at l = ends-word 0 (mostLeft kind) at _ l (λ lefts a. ends-left rows kind lefts (at + 1) a)
@@ -161,7 +161,7 @@ module _ (words other : List ℕ) (p : ℕ) (same : take p other ≡ take p word
   alike-lists : (rows : List ℕ) (kind at : ℕ) → Alike (listsEnd words rows kind at) (listsEnd other rows kind at)
   alike-lists rows kind at =
       alike-word 0 (mostLeft kind) at _ _ (λ lefts a. ends-left words rows kind lefts (at + 1) a)
-      (λ lefts a. alike-then (at + 1) (each Left rows words lefts (at + 1)) (each Left rows other lefts (at + 1)) _ _ (ends-each words Left rows lefts (at + 1) (omega arith)) (alike-each Left rows lefts (at + 1)) (λ next b. ends-pairs words rows kind next b)
+      (λ lefts a. alike-then (at + 1) (each Listed rows words lefts (at + 1)) (each Listed rows other lefts (at + 1)) _ _ (ends-each words Listed rows lefts (at + 1) (omega arith)) (alike-each Listed rows lefts (at + 1)) (λ next b. ends-pairs words rows kind next b)
       (λ next b c. alike-pairs rows kind next))
 
   alike-rule : (width at : ℕ) → Alike (ruleEnd words width at) (ruleEnd other width at)

@@ -10,7 +10,8 @@ use Rattle.std.specs.declared.option.Option.the-variants.{Some, None}
 use Rattle.std.specs.declared.result.Result.{Result}
 use Rattle.std.specs.declared.result.Result.the-variants.{Ok, Err}
 use Rattle.sheets.specs.Walk.{Out, ruleEnd, rulesEnd, sheetEnd}
-use Rattle.sheets.specs.Reads.{endOf, ruleAt, rulesAt, startOf, meaningBy, sheetMeaning, Whole, Wide, Counted, Starts, Found, Tabled}
+use Rattle.sheets.specs.Reads.{endOf, ruleAt, rulesAt, startOf, meaningBy, sheetMeaning}
+use Rattle.sheets.specs.Facts.{Whole, Wide, Counted, Starts, Found, Tabled, Opened}
 use Rattle.sheets.specs.Wholes.{then-ok, word-ok, whole-from}
 use Rattle.sheets.specs.Wells.{rules-length}
 use Rattle.sheets.specs.declared.fault.BookFault.{BookFault}
@@ -69,18 +70,14 @@ module _ (words : List ℕ) (width count : ℕ) (starts : List ℕ) (wide : Wide
   none i l = nth-past (meaningBy words (sheetEnd words) .rules) i (omega arith)
 
 -- what the two ways of opening know
-pub wide-from : (words : List ℕ) (width count : ℕ) (starts : List ℕ) → Tabled words width count starts → Wide words width
+pub opened-from : (words : List ℕ) (width count : ℕ) (starts : List ℕ) → Tabled words width count starts → Opened words width count starts
 unfolding sheetMeaning
-wide-from words width count starts t = rw (t .passing) (sym (t .width-is))
+opened-from words width count starts t = record {
+  wide = rw (t .passing) (sym (t .width-is));
+  counted = rw (t .passing) (rules-length words (getD words 0 0) (getD words 1 0) 2 ∙ sym (t .count-is));
+  started = t .starts-are;
+}
 
-pub counted-from : (words : List ℕ) (width count : ℕ) (starts : List ℕ) → Tabled words width count starts → Counted words count
+pub opened-failed : (words : List ℕ) (f : BookFault) (starts : List ℕ) → sheetEnd words ≡ Err f → Opened words 1 0 starts
 unfolding sheetMeaning
-counted-from words width count starts t = rw (t .passing) (rules-length words (getD words 0 0) (getD words 1 0) 2 ∙ sym (t .count-is))
-
-pub wide-failed : (words : List ℕ) (f : BookFault) → sheetEnd words ≡ Err f → Wide words 1
-unfolding sheetMeaning
-wide-failed words f e = rw e
-
-pub counted-failed : (words : List ℕ) (f : BookFault) → sheetEnd words ≡ Err f → Counted words 0
-unfolding sheetMeaning
-counted-failed words f e = rw e
+opened-failed words f starts e = record { wide = rw e; counted = rw e; started = λ i l. absurd (omega arith) }

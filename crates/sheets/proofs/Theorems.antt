@@ -12,7 +12,8 @@ use Rattle.rules.specs.Rules.{Rule, _∈_}
 use Rattle.rules.specs.Books.{BookMeaning, Well-formed, Well-formed-book}
 use Rattle.sheets.specs.Walk.{Out, then, wordIn, ruleEnd, rulesEnd, sheetEnd}
 use Rattle.sheets.specs.Layout.{layoutRule, layout}
-use Rattle.sheets.specs.Reads.{endOf, ruleAt, rulesAt, empty-book, meaningBy, sheetMeaning, Whole}
+use Rattle.sheets.specs.Reads.{endOf, ruleAt, rulesAt, empty-book, meaningBy, sheetMeaning}
+use Rattle.sheets.specs.Facts.{Whole}
 use Rattle.sheets.specs.Wholes.{then-ok, word-ok, whole-from, clash}
 use Rattle.sheets.specs.Lays.{rule-lay, head-at}
 use Rattle.sheets.specs.Wells.{sheet-well, rules-length}

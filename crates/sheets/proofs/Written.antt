@@ -15,17 +15,18 @@ use Rattle.std.proofs.shelf.Tests.{lt-ltb, le-ltb, le-leb, eq-eqb, and-from, or
 use Rattle.std.specs.declared.result.Result.{Result}
 use Rattle.std.specs.declared.result.Result.the-variants.{Ok, Err}
 use Rattle.rules.specs.Rules.{Rule, Pattern, _∈_}
-use Rattle.rules.specs.Books.{Small, Stands, Known, Pair-of, Left-of, Well-formed}
-use Rattle.sheets.specs.Walk.{Out, then, wordIn, has, passes, each, part, mostLeft, pairSize, pairWant, ruleEnd}
+use Rattle.rules.specs.Books.{base, Small, Stands, Known, Pair-of, Left-of, Well-formed}
+use Rattle.sheets.specs.Walk.{limit, Out, then, wordIn, has, passes, each, part, mostLeft, pairSize, pairWant, ruleEnd}
 use Rattle.sheets.specs.Layout.{wordOf, kindWord, pairWords, leftWords, layoutLists, layoutRule}
-use Rattle.sheets.specs.Reads.{slots, termOf, kindOf, termIn, leftIn, pairIn, leftPlace, pairPlace, endOf, ruleAt, Whole}
+use Rattle.sheets.specs.Reads.{slots, termOf, kindOf, termIn, leftIn, pairIn, leftPlace, pairPlace, endOf, ruleAt}
+use Rattle.sheets.specs.Facts.{Whole}
 use Rattle.sheets.specs.Wholes.{All-pass, passes-below, part-below}
 use Rattle.rules.specs.declared.term.Term.{Term}
 use Rattle.rules.specs.declared.term.Term.the-variants.{Constant, Variable}
 use Rattle.rules.specs.declared.term.Kind.{Kind}
 use Rattle.rules.specs.declared.term.Kind.the-variants.{Functional, Equality}
 use Rattle.sheets.specs.declared.want.Want.{Want}
-use Rattle.sheets.specs.declared.want.Want.the-variants.{Entry, Left, Side}
+use Rattle.sheets.specs.declared.want.Want.the-variants.{Entry, Listed, Side}
 
 -- the walk comes to the end of a rule that is whole
 pub then-pass : {X Y : Type 0} (o : Out X) (f : X → Out Y) (x : X) (y : Y) → o ≡ Ok x → f x ≡ Ok y → then o f ≡ Ok y
@@ -51,9 +52,9 @@ rule-pass words width at h =
     let rows = part words (at + 2) left in
     then-pass (wordIn 1 2 words at) _ (w at 0) _ (word-pass 1 2 words at (omega arith) (h .some-kind) (h .few-kinds))
     (then-pass (wordIn 1 4 words (at + 1)) _ (w (at + 1) 0) _ (word-pass 1 4 words (at + 1) (omega arith) (h .some-row) (h .few-rows))
-    (then-pass (each Entry [] words (w (at + 1) 0 * width) (at + 2)) _ left _ (each-pass Entry [] words (w (at + 1) 0 * width) (at + 2) (omega arith) (λ p a b. lt-ltb (w p 0) 16777248 (h .entries p a b)))
+    (then-pass (each Entry [] words (w (at + 1) 0 * width) (at + 2)) _ left _ (each-pass Entry [] words (w (at + 1) 0 * width) (at + 2) (omega arith) (λ p a b. lt-ltb (w p 0) limit (h .entries p a b)))
     (then-pass (wordIn 0 (mostLeft (w at 0)) words left) _ (w left 0) _ (word-pass 0 (mostLeft (w at 0)) words left (omega arith) (omega arith) (h .few-left))
-    (then-pass (each Left rows words (w left 0) (left + 1)) _ next _ (each-pass Left rows words (w left 0) (left + 1) (omega arith) (h .lefts))
+    (then-pass (each Listed rows words (w left 0) (left + 1)) _ next _ (each-pass Listed rows words (w left 0) (left + 1) (omega arith) (h .lefts))
     (then-pass (wordIn 0 32 words next) _ (w next 0) _ (word-pass 0 32 words next (omega arith) (omega arith) (h .few-pairs))
     (each-pass (pairWant (w at 0)) rows words (w next 0 * pairSize (w at 0)) (next + 1) (h .inside) (h .sides)))))))
 
@@ -100,17 +101,17 @@ slots-read g f size words (x ∷ xs) at rest e sized reads =
 
 -- terms
 pub term-word : (t : Term) → Small t → termOf (wordOf t) ≡ t
-term-word (Constant c) h = rw (lt-ltb c 16777216 h)
+term-word (Constant c) h = rw (lt-ltb c base h)
 term-word (Variable v) h =
-    let l : 16777216 ≤ 16777216 + v = omega arith in
-    rw (le-ltb (16777216 + v) 16777216 l) (ap Variable (omega arith))
+    let l : base ≤ base + v = omega arith in
+    rw (le-ltb (base + v) base l) (ap Variable (omega arith))
 
 pub term-read : (words : List ℕ) (t : Term) (p : ℕ) (ys : List ℕ) → Small t → drop p words ≡ wordOf t ∷ ys → termIn words p ≡ t
 term-read words t p ys h e = ap termOf (at-head words p (wordOf t) ys e .1) ∙ term-word t h
 
 entry-passes : (t : Term) → Small t → passes Entry [] (wordOf t) ≡ true
-entry-passes (Constant c) h = lt-ltb c 16777248 (omega arith)
-entry-passes (Variable v) h = lt-ltb (16777216 + v) 16777248 (omega arith)
+entry-passes (Constant c) h = lt-ltb c limit (omega arith)
+entry-passes (Variable v) h = lt-ltb (base + v) limit (omega arith)
 
 row-passes : (row : List Term) → ((t : Term) → t ∈ row → Small t) → All (λ w. passes Entry [] w ≡ true) (map wordOf row)
 row-passes [] h = tt
@@ -147,15 +148,15 @@ has-rows (x ∷ xs) row w m h =
     (λ n. has-right (map wordOf x) (joined (map wordOf) xs) w (has-rows xs row w n h))
     (List·Memᴰ·cases-cons m)
 
-pub has-stands : (pattern : Pattern) (v : ℕ) → Stands v pattern → has (joined (map wordOf) pattern) (16777216 + v) ≡ true
-has-stands pattern v s = has-rows pattern (s .0) (16777216 + v) (s .1) (has-word (Variable v) (s .0) (s .2))
+pub has-stands : (pattern : Pattern) (v : ℕ) → Stands v pattern → has (joined (map wordOf) pattern) (base + v) ≡ true
+has-stands pattern v s = has-rows pattern (s .0) (base + v) (s .1) (has-word (Variable v) (s .0) (s .2))
 
-left-passes : (pattern : Pattern) (v : ℕ) → Stands v pattern → passes Left (joined (map wordOf) pattern) (16777216 + v) ≡ true
-left-passes pattern v s = and-from (leb 16777216 (16777216 + v)) _ (le-leb 16777216 (16777216 + v) (omega arith)) (has-stands pattern v s)
+left-passes : (pattern : Pattern) (v : ℕ) → Stands v pattern → passes Listed (joined (map wordOf) pattern) (base + v) ≡ true
+left-passes pattern v s = and-from (leb base (base + v)) _ (le-leb base (base + v) (omega arith)) (has-stands pattern v s)
 
 side-passes : (pattern : Pattern) (t : Term) → Known pattern t → passes Side (joined (map wordOf) pattern) (wordOf t) ≡ true
-side-passes pattern (Constant c) k = or-left (ltb c 16777216) _ (lt-ltb c 16777216 k)
-side-passes pattern (Variable v) k = or-right (ltb (16777216 + v) 16777216) _ (has-stands pattern v k)
+side-passes pattern (Constant c) k = or-left (ltb c base) _ (lt-ltb c base k)
+side-passes pattern (Variable v) k = or-right (ltb (base + v) base) _ (has-stands pattern v k)
 
 known-small : (pattern : Pattern) → ((row : List Term) → row ∈ pattern → (t : Term) → t ∈ row → Small t) → (t : Term) → Known pattern t → Small t
 known-small pattern h (Constant c) k = k
@@ -185,8 +186,8 @@ pair-size Equality p = refl
 pair-passes : (pattern : Pattern) (k : Kind) (p : Term × Term) → Pair-of k p → Known pattern (p .0) × Known pattern (p .1) → All (λ w. passes (pairWant (kindWord k)) (joined (map wordOf) pattern) w ≡ true) (pairWords k p)
 pair-passes pattern Functional p (v, e) n =
     let s = subst (λ (q : Term × Term). Known pattern (q .0)) e (n .0) in
-    let l : wordOf (p .0) ≡ 16777216 + v = ap (λ q. wordOf (q .0)) e in
-    (subst (λ (w : ℕ). passes Left (joined (map wordOf) pattern) w ≡ true) (sym l) (left-passes pattern v s), tt)
+    let l : wordOf (p .0) ≡ base + v = ap (λ q. wordOf (q .0)) e in
+    (subst (λ (w : ℕ). passes Listed (joined (map wordOf) pattern) w ≡ true) (sym l) (left-passes pattern v s), tt)
 pair-passes pattern Equality p f n = (side-passes pattern (p .0) (n .0), (side-passes pattern (p .1) (n .1), tt))
 
 pair-read : (words : List ℕ) (k : Kind) (p : Term × Term) → Pair-of k p → Small (p .0) → Small (p .1) → (at : ℕ) (ys : List ℕ) → drop at words ≡ pairWords k p ++ ys → pairIn k words at ≡ p
@@ -200,7 +201,7 @@ pair-read words Equality p f a b at ys h =
     λ i. (t i, u i)
 
 left-read : (words : List ℕ) (v p : ℕ) (ys : List ℕ) → drop p words ≡ leftWords v ++ ys → leftIn words p ≡ v
-left-read words v p ys e = let g = at-head words p (16777216 + v) ys e .1 in omega arith
+left-read words v p ys e = let g = at-head words p (base + v) ys e .1 in omega arith
 
 -- where the parts of a rule that is written down stand
 pub record Spread (words : List ℕ) (width at : ℕ) (r : Rule) (rest : List ℕ) : Type 0 where
@@ -273,18 +274,18 @@ module _ (words : List ℕ) (width at : ℕ) (r : Rule) (rest : List ℕ) (narro
       let n : leftPlace words width at - (at + 2) ≡ getD words (at + 1) 0 * width = omega arith in
       ap (λ k. take k (drop (at + 2) words)) n ∙ at-front words (at + 2) (getD words (at + 1) 0 * width) (joined (map wordOf) (r .pattern)) (s .after-rows) (s .rows-size) (s .rows-lay) .1
 
-  entries-written : (p : ℕ) → at + 2 ≤ p → p < leftPlace words width at → getD words p 0 < 16777248
+  entries-written : (p : ℕ) → at + 2 ≤ p → p < leftPlace words width at → getD words p 0 < limit
   unfolding leftPlace
   entries-written p a b =
       ltb-true _ _ (all-points (λ w. passes Entry [] w ≡ true) words (at + 2) (getD words (at + 1) 0 * width) (joined (map wordOf) (r .pattern)) (s .after-rows) (s .rows-size) (s .rows-lay)
       (all-joined (λ w. passes Entry [] w ≡ true) (map wordOf) (r .pattern) (λ row m. row-passes row (well .small row m))) p a b)
 
-  lefts-written : (p : ℕ) → leftPlace words width at + 1 ≤ p → p < pairPlace words width at → passes Left (part words (at + 2) (leftPlace words width at)) (getD words p 0) ≡ true
+  lefts-written : (p : ℕ) → leftPlace words width at + 1 ≤ p → p < pairPlace words width at → passes Listed (part words (at + 2) (leftPlace words width at)) (getD words p 0) ≡ true
   unfolding pairPlace
   lefts-written p a b =
-      subst (λ (rows : List ℕ). passes Left rows (getD words p 0) ≡ true) (sym rows-part)
-      (all-points (λ w. passes Left (joined (map wordOf) (r .pattern)) w ≡ true) words (leftPlace words width at + 1) (getD words (leftPlace words width at) 0) (joined leftWords (r .left)) (s .after-left) (s .left-size) (s .left-lay)
-      (all-joined (λ w. passes Left (joined (map wordOf) (r .pattern)) w ≡ true) leftWords (r .left) (λ v m. (left-passes (r .pattern) v (well .left-stands v m), tt))) p a b)
+      subst (λ (rows : List ℕ). passes Listed rows (getD words p 0) ≡ true) (sym rows-part)
+      (all-points (λ w. passes Listed (joined (map wordOf) (r .pattern)) w ≡ true) words (leftPlace words width at + 1) (getD words (leftPlace words width at) 0) (joined leftWords (r .left)) (s .after-left) (s .left-size) (s .left-lay)
+      (all-joined (λ w. passes Listed (joined (map wordOf) (r .pattern)) w ≡ true) leftWords (r .left) (λ v m. (left-passes (r .pattern) v (well .left-stands v m), tt))) p a b)
 
   sides-written : (p : ℕ) → pairPlace words width at + 1 ≤ p → p < endOf words width at → passes (pairWant (getD words at 0)) (part words (at + 2) (leftPlace words width at)) (getD words p 0) ≡ true
   unfolding endOf
@@ -315,7 +316,7 @@ module _ (words : List ℕ) (width at : ℕ) (r : Rule) (rest : List ℕ) (narro
   pub whole-written : Whole words width at
   whole-written =
       let rows = part words (at + 2) (leftPlace words width at) in
-      let below = part-below words (at + 2) (leftPlace words width at) 16777248 entries-written in
+      let below = part-below words (at + 2) (leftPlace words width at) limit entries-written in
       let most : length (r .left) ≤ mostLeft (kindWord (r .kind)) = most-left (r .kind) (r .left) (well .left-fits) (well .few-left) in
       record {
         narrow = narrow;
@@ -330,8 +331,8 @@ module _ (words : List ℕ) (width at : ℕ) (r : Rule) (rest : List ℕ) (narro
         entries = entries-written;
         few-left = rw (s .left-at, s .kind-at) most;
         lefts = lefts-written;
-        lefts-from = λ p a b. leb-true _ _ (and-parts (leb 16777216 (getD words p 0)) (has rows (getD words p 0)) (lefts-written p a b) .0);
-        lefts-below = λ p a b. passes-below Left rows (getD words p 0) below (lefts-written p a b);
+        lefts-from = λ p a b. leb-true _ _ (and-parts (leb base (getD words p 0)) (has rows (getD words p 0)) (lefts-written p a b) .0);
+        lefts-below = λ p a b. passes-below Listed rows (getD words p 0) below (lefts-written p a b);
         few-pairs = rw (s .pair-at) (well .few-pairs);
         sides = sides-written;
         sides-below = λ p a b. passes-below (pairWant (getD words at 0)) rows (getD words p 0) below (sides-written p a b);

@@ -12,7 +12,7 @@ use Rattle.rules.specs.declared.term.Kind.the-variants.{Functional, Equality}
 
 abbrev pub wordOf : Term → ℕ
 wordOf (Constant c) = c
-wordOf (Variable v) = 16777216 + v
+wordOf (Variable v) = base + v
 
 abbrev pub kindWord : Kind → ℕ
 kindWord Functional = 1
@@ -24,7 +24,7 @@ pairWords Functional p = wordOf (p .0) ∷ []
 pairWords Equality p = wordOf (p .0) ∷ wordOf (p .1) ∷ []
 
 abbrev pub leftWords : ℕ → List ℕ
-leftWords v = (16777216 + v) ∷ []
+leftWords v = (base + v) ∷ []
 
 -- the lists of a rule, and the whole rule
 unfoldable pub layoutLists : Rule → List ℕ

@@ -1,4 +1,5 @@
--- Words that pass are a layout of what they say.
+-- Lemmas: words that pass are a layout of what they say.
+-- They stand here, and not in proofs/, because Wells needs them.
 use mathlib.Core.Path.{_≡_, refl, sym, ap, subst, _∙_}
 use mathlib.Core.List.{List, [], _∷_, _++_, map, append-assoc}
 use mathlib.Core.Bool.{Bool, true, false, cond}
@@ -11,10 +12,12 @@ use lib.ListN.{length, getD, drop}
 use Rattle.std.specs.shelf.Lists.{joined}
 use Rattle.std.proofs.shelf.Lists.{drop-more}
 use Rattle.std.proofs.shelf.Tests.{cases-bool, eqb-true, eqb-false, ltb-false}
+use Rattle.rules.specs.Books.{base}
 use Rattle.rules.specs.Rules.{Rule}
 use Rattle.sheets.specs.Walk.{pairSize}
 use Rattle.sheets.specs.Layout.{wordOf, kindWord, pairWords, leftWords, layoutLists, layoutRule}
-use Rattle.sheets.specs.Reads.{slots, termOf, kindOf, termIn, leftIn, pairIn, leftPlace, pairPlace, endOf, ruleAt, Whole}
+use Rattle.sheets.specs.Reads.{slots, termOf, kindOf, termIn, leftIn, pairIn, leftPlace, pairPlace, endOf, ruleAt}
+use Rattle.sheets.specs.Facts.{Whole}
 use Rattle.sheets.specs.Slots.{slots-length}
 use Rattle.rules.specs.declared.term.Term.{Term}
 use Rattle.rules.specs.declared.term.Term.the-variants.{Constant, Variable}
@@ -24,7 +27,7 @@ use Rattle.rules.specs.declared.term.Kind.the-variants.{Functional, Equality}
 -- a word is that of the term that it says
 pub word-term : (w : ℕ) → wordOf (termOf w) ≡ w
 word-term w =
-    ⊎-elim (λ e. rw e) (λ e. rw e (let h = ltb-false w 16777216 e in omega arith)) (cases-bool (ltb w 16777216))
+    ⊎-elim (λ e. rw e) (λ e. rw e (let h = ltb-false w base e in omega arith)) (cases-bool (ltb w base))
 
 pub word-kind : (w : ℕ) → 1 ≤ w → w ≤ 2 → kindWord (kindOf w) ≡ w
 word-kind w a b =
@@ -48,9 +51,9 @@ row-lay words (suc n) at l =
     let r = row-lay words n (at + 1) (omega arith) in
     head-at words at (at + 1) (omega arith) refl ∙ rw (word-term (getD words at 0)) (ap (λ xs. getD words at 0 ∷ xs) (r ∙ ap (λ p. map wordOf (slots (termIn words) 1 n (at + 1)) ++ drop p words) e))
 
-pub left-lay : (words : List ℕ) (p : ℕ) → p < length words → 16777216 ≤ getD words p 0 → drop p words ≡ leftWords (leftIn words p) ++ drop (p + 1) words
+pub left-lay : (words : List ℕ) (p : ℕ) → p < length words → base ≤ getD words p 0 → drop p words ≡ leftWords (leftIn words p) ++ drop (p + 1) words
 left-lay words p l b =
-    let e : getD words p 0 ≡ 16777216 + (getD words p 0 - 16777216) = omega arith in
+    let e : getD words p 0 ≡ base + (getD words p 0 - base) = omega arith in
     head-at words p (p + 1) l refl ∙ ap (λ w. w ∷ drop (p + 1) words) e
 
 pub pair-lay : (words : List ℕ) (b : Bool) (p : ℕ) → p + cond b 1 2 ≤ length words → drop p words ≡ pairWords (cond b Functional Equality) (pairIn (cond b Functional Equality) words p) ++ drop (p + cond b 1 2) words

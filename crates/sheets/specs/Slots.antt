@@ -1,4 +1,5 @@
--- What stands in slots of one size.
+-- Lemmas: what stands in slots of one size.
+-- They stand here, and not in proofs/, because Wells needs them.
 use mathlib.Core.Path.{_≡_, refl, sym, ap, _∙_}
 use mathlib.Core.List.{List, [], _∷_}
 use Prim.Native.Nat.{ℕ, zero, suc, _+_, _*_, _≤_, _<_}

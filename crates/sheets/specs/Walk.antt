@@ -11,11 +11,15 @@ use Rattle.rules.specs.declared.refusal.Refusal.{Refusal}
 use Rattle.rules.specs.declared.refusal.Layer.the-variants.{Book}
 use Rattle.sheets.specs.declared.fault.BookFault.{BookFault}
 use Rattle.sheets.specs.declared.want.Want.{Want}
-use Rattle.sheets.specs.declared.want.Want.the-variants.{Entry, Left, Side}
+use Rattle.sheets.specs.declared.want.Want.the-variants.{Entry, Listed, Side}
 
 -- the refusal that a fault is
 abbrev pub book-refusal : BookFault → Refusal
 book-refusal f = record { number = 7; layer = Book; place = f .place }
+
+-- the words of terms are below this: first those of the constants, then those of the 32 variables
+abbrev pub limit : ℕ
+limit = base + 32
 
 abbrev pub Out : Type 0 → Type 0
 Out X = Result X BookFault
@@ -36,9 +40,9 @@ has (x ∷ xs) w = eqb x w || has xs w
 
 -- the word is what is wanted, where the rows of its rule have these words
 abbrev pub passes : Want → List ℕ → ℕ → Bool
-passes Entry rows w = ltb w 16777248
-passes Left rows w = leb 16777216 w && has rows w
-passes Side rows w = ltb w 16777216 || has rows w
+passes Entry rows w = ltb w limit
+passes Listed rows w = leb base w && has rows w
+passes Side rows w = ltb w base || has rows w
 
 -- n words from a place on, each what is wanted: the place after them
 abbrev pub each : Want → List ℕ → List ℕ → ℕ → ℕ → Out ℕ
@@ -57,13 +61,13 @@ abbrev pub pairSize : ℕ → ℕ
 pairSize kind = cond (eqb kind 1) 1 2
 
 abbrev pub pairWant : ℕ → Want
-pairWant kind = cond (eqb kind 1) Left Side
+pairWant kind = cond (eqb kind 1) Listed Side
 
 -- the lists of a rule that follow its rows: the place after them
 abbrev pub listsEnd : List ℕ → List ℕ → ℕ → ℕ → Out ℕ
 listsEnd words rows kind at =
     then (wordIn 0 (mostLeft kind) words at) (λ lefts.
-    then (each Left rows words lefts (at + 1)) (λ next.
+    then (each Listed rows words lefts (at + 1)) (λ next.
     then (wordIn 0 32 words next) (λ pairs.
     each (pairWant kind) rows words (pairs * pairSize kind) (next + 1))))
 

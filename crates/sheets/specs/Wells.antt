@@ -1,4 +1,5 @@
--- What the words of a sheet say is well formed.
+-- Lemmas: what the words of a sheet say is well formed.
+-- The last of them is what a sheet gives for the well-formedness that the trait Book asks of it.
 use mathlib.Core.Path.{_≡_, refl, sym, ap, subst, _∙_}
 use mathlib.Core.List.{List, [], _∷_, _++_, map, List·Memᴰ, List·Memᴰ·head, List·Memᴰ·tail, List·Memᴰ·cases-cons, List·Memᴰ·not-nil}
 use mathlib.Core.Bool.{Bool, true, false, cond, _&&_, _||_}
@@ -14,10 +15,11 @@ use Rattle.std.proofs.shelf.Tests.{cases-bool, eqb-true, eqb-false, ltb-true, l
 use Rattle.std.specs.declared.result.Result.{Result}
 use Rattle.std.specs.declared.result.Result.the-variants.{Ok, Err}
 use Rattle.rules.specs.Rules.{Rule, Pattern, _∈_}
-use Rattle.rules.specs.Books.{BookMeaning, Small, Stands, Known, Pair-of, Left-of, Well-formed, Well-formed-book}
-use Rattle.sheets.specs.Walk.{Out, has, passes, part, mostLeft, pairSize, pairWant, ruleEnd, rulesEnd, sheetEnd}
+use Rattle.rules.specs.Books.{base, BookMeaning, Small, Stands, Known, Pair-of, Left-of, Well-formed, Well-formed-book}
+use Rattle.sheets.specs.Walk.{limit, Out, has, passes, part, mostLeft, pairSize, pairWant, ruleEnd, rulesEnd, sheetEnd}
 use Rattle.sheets.specs.Layout.{wordOf}
-use Rattle.sheets.specs.Reads.{slots, termOf, kindOf, termIn, leftIn, pairIn, leftPlace, pairPlace, endOf, ruleAt, rulesAt, meaningBy, sheetMeaning, Whole}
+use Rattle.sheets.specs.Reads.{slots, termOf, kindOf, termIn, leftIn, pairIn, leftPlace, pairPlace, endOf, ruleAt, rulesAt, meaningBy, sheetMeaning}
+use Rattle.sheets.specs.Facts.{Whole}
 use Rattle.sheets.specs.Slots.{slots-length}
 use Rattle.sheets.specs.Wholes.{whole-from, then-ok, word-ok}
 use Rattle.sheets.specs.Lays.{pattern-lay}
@@ -26,7 +28,7 @@ use Rattle.rules.specs.declared.term.Term.the-variants.{Constant, Variable}
 use Rattle.rules.specs.declared.term.Kind.{Kind}
 use Rattle.rules.specs.declared.term.Kind.the-variants.{Functional, Equality}
 use Rattle.sheets.specs.declared.want.Want.{Want}
-use Rattle.sheets.specs.declared.want.Want.the-variants.{Entry, Left, Side}
+use Rattle.sheets.specs.declared.want.Want.the-variants.{Entry, Listed, Side}
 
 -- an element of what stands in slots stands in one of them
 pub mem-slots : {X : Type 0} (f : ℕ → X) (size n at : ℕ) (x : X) → x ∈ slots f size n at → (p : ℕ) × (at ≤ p) × (p + size ≤ at + n * size) × (x ≡ f p)
@@ -52,7 +54,7 @@ has-term (row ∷ rows) w e =
     (λ q. let r = has-term rows w q in (r .0, List·Memᴰ·tail (r .1), r .2, r .3, r .4))
     (has-row row (joined (map wordOf) rows) w e)
 
-is-variable : (t : Term) (w : ℕ) → Small t → wordOf t ≡ w → 16777216 ≤ w → t ≡ Variable (w - 16777216)
+is-variable : (t : Term) (w : ℕ) → Small t → wordOf t ≡ w → base ≤ w → t ≡ Variable (w - base)
 is-variable (Constant c) w s e h = absurd (omega arith)
 is-variable (Variable v) w s e h = ap Variable (omega arith)
 
@@ -62,38 +64,38 @@ moved x y xs e m = subst (λ (z : _). z ∈ xs) e m
 abbrev pub All-small : Pattern → Type 0
 All-small pattern = (row : List Term) → row ∈ pattern → (t : Term) → t ∈ row → Small t
 
-pub stands-from : (pattern : Pattern) (w : ℕ) → All-small pattern → 16777216 ≤ w → has (joined (map wordOf) pattern) w ≡ true → Stands (w - 16777216) pattern
+pub stands-from : (pattern : Pattern) (w : ℕ) → All-small pattern → base ≤ w → has (joined (map wordOf) pattern) w ≡ true → Stands (w - base) pattern
 stands-from pattern w small h e =
     let r = has-term pattern w e in
-    (r .0, r .1, moved (r .2) (Variable (w - 16777216)) (r .0) (is-variable (r .2) w (small (r .0) (r .1) (r .2) (r .3)) (r .4) h) (r .3))
+    (r .0, r .1, moved (r .2) (Variable (w - base)) (r .0) (is-variable (r .2) w (small (r .0) (r .1) (r .2) (r .3)) (r .4) h) (r .3))
 
-pub small-term : (w : ℕ) → w < 16777248 → Small (termOf w)
+pub small-term : (w : ℕ) → w < limit → Small (termOf w)
 small-term w h =
-    ⊎-elim (λ e. rw e (ltb-true w 16777216 e)) (λ e. rw e (let g = ltb-false w 16777216 e in omega arith)) (cases-bool (ltb w 16777216))
+    ⊎-elim (λ e. rw e (ltb-true w base e)) (λ e. rw e (let g = ltb-false w base e in omega arith)) (cases-bool (ltb w base))
 
 pub known-from : (pattern : Pattern) (w : ℕ) → All-small pattern → passes Side (joined (map wordOf) pattern) w ≡ true → Known pattern (termOf w)
 known-from pattern w small h =
-    ⊎-elim (λ e. rw e (ltb-true w 16777216 e))
-    (λ e. rw e (stands-from pattern w small (ltb-false w 16777216 e) (rw e at h)))
-    (cases-bool (ltb w 16777216))
+    ⊎-elim (λ e. rw e (ltb-true w base e))
+    (λ e. rw e (stands-from pattern w small (ltb-false w base e) (rw e at h)))
+    (cases-bool (ltb w base))
 
 -- what each way of reading pairs gives, by the kind's test
 pairs-known-by : (pattern : Pattern) (words : List ℕ) (b : Bool) (p : ℕ) → All-small pattern
-    → ((q : ℕ) → p ≤ q → q < p + cond b 1 2 → passes (cond b Left Side) (joined (map wordOf) pattern) (getD words q 0) ≡ true)
+    → ((q : ℕ) → p ≤ q → q < p + cond b 1 2 → passes (cond b Listed Side) (joined (map wordOf) pattern) (getD words q 0) ≡ true)
     → Known pattern (pairIn (cond b Functional Equality) words p .0) × Known pattern (pairIn (cond b Functional Equality) words p .1)
 pairs-known-by pattern words true p small h =
-    let a = and-parts (leb 16777216 (getD words p 0)) (has (joined (map wordOf) pattern) (getD words p 0)) (h p (omega arith) (omega arith)) .1 in
-    let k = known-from pattern (getD words p 0) small (or-right (ltb (getD words p 0) 16777216) _ a) in
+    let a = and-parts (leb base (getD words p 0)) (has (joined (map wordOf) pattern) (getD words p 0)) (h p (omega arith) (omega arith)) .1 in
+    let k = known-from pattern (getD words p 0) small (or-right (ltb (getD words p 0) base) _ a) in
     (k, k)
 pairs-known-by pattern words false p small h =
     (known-from pattern (getD words p 0) small (h p (omega arith) (omega arith)), known-from pattern (getD words (p + 1) 0) small (h (p + 1) (omega arith) (omega arith)))
 
 pairs-fit-by : (rows words : List ℕ) (b : Bool) (p : ℕ)
-    → ((q : ℕ) → p ≤ q → q < p + cond b 1 2 → passes (cond b Left Side) rows (getD words q 0) ≡ true)
+    → ((q : ℕ) → p ≤ q → q < p + cond b 1 2 → passes (cond b Listed Side) rows (getD words q 0) ≡ true)
     → Pair-of (cond b Functional Equality) (pairIn (cond b Functional Equality) words p)
 pairs-fit-by rows words true p h =
-    let a = leb-true _ _ (and-parts (leb 16777216 (getD words p 0)) (has rows (getD words p 0)) (h p (omega arith) (omega arith)) .0) in
-    (getD words p 0 - 16777216, rw (le-ltb (getD words p 0) 16777216 a))
+    let a = leb-true _ _ (and-parts (leb base (getD words p 0)) (has rows (getD words p 0)) (h p (omega arith) (omega arith)) .0) in
+    (getD words p 0 - base, rw (le-ltb (getD words p 0) base a))
 pairs-fit-by rows words false p h = tt
 
 left-fits-by : (b : Bool) (f : ℕ → ℕ) (n at : ℕ) → n ≤ cond b 32 0 → Left-of (cond b Functional Equality) (slots f 1 n at)
@@ -145,7 +147,7 @@ module _ (words : List ℕ) (width at : ℕ) (h : Whole words width at) where
         left-stands = λ v m.
             (let r = mem-slots (leftIn words) 1 (getD words left 0) (left + 1) v m in
             let p = r .0 in
-            let a = and-parts (leb 16777216 (getD words p 0)) (has (part words (at + 2) left) (getD words p 0)) (h .lefts p (omega arith) (omega arith)) in
+            let a = and-parts (leb base (getD words p 0)) (has (part words (at + 2) left) (getD words p 0)) (h .lefts p (omega arith) (omega arith)) in
             let b = subst (λ (rows : List ℕ). has rows (getD words p 0) ≡ true) rows-are (a .1) in
             subst (λ (u : ℕ). Stands u (ruleAt words width at .pattern)) (sym (r .3)) (stands-from (ruleAt words width at .pattern) (getD words p 0) all-small (leb-true _ _ (a .0)) b));
         few-pairs = rw pairs-many (h .few-pairs);

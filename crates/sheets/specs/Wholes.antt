@@ -1,4 +1,5 @@
--- What it says of the words that the walk comes to an end.
+-- Lemmas: what it says of the words that the walk comes to an end.
+-- They stand here, and not in proofs/, because Wells needs them.
 use mathlib.Core.Path.{_≡_, refl, sym, ap, subst, _∙_}
 use mathlib.Core.List.{List, [], _∷_}
 use mathlib.Core.Bool.{Bool, true, false, cond, _&&_, _||_}
@@ -11,10 +12,12 @@ use Rattle.std.proofs.shelf.Lists.{getD-take, getD-drop, length-drop}
 use Rattle.std.proofs.shelf.Tests.{ltb-true, leb-true, eqb-true, and-parts, or-cases, cases-lt, cases-order}
 use Rattle.std.specs.declared.result.Result.{Result}
 use Rattle.std.specs.declared.result.Result.the-variants.{Ok, Err}
-use Rattle.sheets.specs.Walk.{Out, then, wordIn, has, passes, each, part, mostLeft, pairSize, pairWant, listsEnd, ruleEnd}
-use Rattle.sheets.specs.Reads.{leftPlace, pairPlace, endOf, Whole}
+use Rattle.rules.specs.Books.{base}
+use Rattle.sheets.specs.Walk.{limit, Out, then, wordIn, has, passes, each, part, mostLeft, pairSize, pairWant, listsEnd, ruleEnd}
+use Rattle.sheets.specs.Reads.{leftPlace, pairPlace, endOf}
+use Rattle.sheets.specs.Facts.{Whole}
 use Rattle.sheets.specs.declared.want.Want.{Want}
-use Rattle.sheets.specs.declared.want.Want.the-variants.{Entry, Left, Side}
+use Rattle.sheets.specs.declared.want.Want.the-variants.{Entry, Listed, Side}
 use Rattle.sheets.specs.declared.fault.BookFault.{BookFault}
 
 pub clash : {X : Type 0} (f : BookFault) (x : X) → _≡_ {A = Out X} (Err f) (Ok x) → ⊥
@@ -67,10 +70,10 @@ part-below words from to b h k l =
     let n : k < to - from = omega (arith, length-take (to - from) (drop from words)) in
     rw (getD-take (to - from) (drop from words) k 0 n, getD-drop from words k 0) (h (from + k) (omega arith) (omega arith))
 
-pub passes-below : (want : Want) (rows : List ℕ) (w : ℕ) → ((k : ℕ) → k < length rows → getD rows k 0 < 16777248) → passes want rows w ≡ true → w < 16777248
-passes-below Entry rows w h e = ltb-true w 16777248 e
-passes-below Left rows w h e = has-below rows 16777248 w h (and-parts (leb 16777216 w) (has rows w) e .1)
-passes-below Side rows w h e = ⊎-elim (λ q. omega (arith, ltb-true w 16777216 q)) (has-below rows 16777248 w h) (or-cases (ltb w 16777216) (has rows w) e)
+pub passes-below : (want : Want) (rows : List ℕ) (w : ℕ) → ((k : ℕ) → k < length rows → getD rows k 0 < limit) → passes want rows w ≡ true → w < limit
+passes-below Entry rows w h e = ltb-true w limit e
+passes-below Listed rows w h e = has-below rows limit w h (and-parts (leb base w) (has rows w) e .1)
+passes-below Side rows w h e = ⊎-elim (λ q. omega (arith, ltb-true w base q)) (has-below rows limit w h) (or-cases (ltb w base) (has rows w) e)
 
 pub whole-from : (words : List ℕ) (width at e : ℕ) → width ≤ 8 → ruleEnd words width at ≡ Ok e → (e ≡ endOf words width at) × Whole words width at
 unfolding leftPlace pairPlace endOf
@@ -82,11 +85,11 @@ whole-from words width at e narrow h =
     let rows = part words (at + 2) left in
     let t = each-ok Entry [] words (w (at + 1) 0 * width) (at + 2) _ e (n .3) (omega arith) in
     let l = word-ok 0 (mostLeft (w at 0)) words left _ e (t .2) in
-    let v = each-ok Left rows words (w left 0) (left + 1) _ e (l .3) (omega arith) in
+    let v = each-ok Listed rows words (w left 0) (left + 1) _ e (l .3) (omega arith) in
     let next = left + 1 + w left 0 in
     let c = word-ok 0 32 words next _ e (v .2) in
     let s = each-is (pairWant (w at 0)) rows words (w next 0 * pairSize (w at 0)) (next + 1) e (c .3) (omega arith) in
-    let below = part-below words (at + 2) left 16777248 (λ p a b. ltb-true _ _ (t .1 p a b)) in (
+    let below = part-below words (at + 2) left limit (λ p a b. ltb-true _ _ (t .1 p a b)) in (
       s .0,
       record {
         narrow = narrow;
@@ -101,8 +104,8 @@ whole-from words width at e narrow h =
         entries = λ p a b. ltb-true _ _ (t .1 p a b);
         few-left = l .2;
         lefts = v .1;
-        lefts-from = λ p a b. leb-true _ _ (and-parts (leb 16777216 (w p 0)) (has rows (w p 0)) (v .1 p a b) .0);
-        lefts-below = λ p a b. passes-below Left rows (w p 0) below (v .1 p a b);
+        lefts-from = λ p a b. leb-true _ _ (and-parts (leb base (w p 0)) (has rows (w p 0)) (v .1 p a b) .0);
+        lefts-below = λ p a b. passes-below Listed rows (w p 0) below (v .1 p a b);
         few-pairs = c .2;
         sides = s .2;
         sides-below = λ p a b. passes-below (pairWant (w at 0)) rows (w p 0) below (s .2 p a b);

@@ -1,21 +1,25 @@
 // What stands in the rule that begins at a place of a sheet's words.
 ghost use mathlib.Core.Path.{_≡_};
-ghost use Prim.Native.Nat.{_<_, _≤_};
-ghost use lib.ListN.{length};
+ghost use Prim.Native.Nat.{_+_, _<_};
+ghost use lib.ListN.{length, getD};
 ghost use Rattle.std.specs.shelf.Maps.{nth};
 ghost use Rattle.rules.specs.Books.{within};
-ghost use Rattle.sheets.specs.Reads.{termOf, kindOf, leftPlace, pairPlace, ruleAt, Whole};
+ghost use Rattle.sheets.specs.Walk.{limit};
+ghost use Rattle.sheets.specs.Reads.{termOf, kindOf, pairIn, leftPlace, pairPlace, ruleAt};
+ghost use Rattle.sheets.specs.Facts.{Whole};
+ghost use Rattle.rules.specs.declared.term.Kind.the-variants.{Equality};
+use crate::want::BASE;
 use rules::term::Kind;
 use rules::term::Term;
 
 fn term_of(w: u32) -> Term
-    requires { ⌜ w < 16777248 ⌝ }
+    requires { ⌜ w < limit ⌝ }
     ensures { λ r. ⌜ r ≡ termOf w ⌝ }
 {
-    if w < 16777216 {
+    if w < BASE {
         return Term::Constant(w);
     }
-    Term::Variable((w - 16777216) as u8)
+    Term::Variable((w - BASE) as u8)
 }
 
 pub(crate) fn kind_of(w: u32) -> Kind
@@ -85,7 +89,15 @@ pub(crate) fn left_in(words: &[u32], width: usize, at: usize, k: usize) -> Optio
     if k >= words[place] as usize {
         return None;
     }
-    Some((words[place + 1 + k] - 16777216) as u8)
+    Some((words[place + 1 + k] - BASE) as u8)
+}
+
+// The two terms of an equality pair.
+fn two_terms(words: &[u32], at: usize) -> (Term, Term)
+    requires { ⌜ at + 1 < length (now words) ⌝ ∗ ⌜ getD (now words) at 0 < limit ⌝ ∗ ⌜ getD (now words) (at + 1) 0 < limit ⌝ }
+    ensures { λ r. ⌜ r ≡ pairIn Equality (now (words .entry)) at ⌝ }
+{
+    (term_of(words[at]), term_of(words[at + 1]))
 }
 
 pub(crate) fn pair_in(words: &[u32], width: usize, at: usize, k: usize) -> Option<(Term, Term)>
@@ -100,6 +112,5 @@ pub(crate) fn pair_in(words: &[u32], width: usize, at: usize, k: usize) -> Optio
         let side = term_of(words[place + 1 + k]);
         return Some((side, side));
     }
-    let here = place + 1 + k * 2;
-    Some((term_of(words[here]), term_of(words[here + 1])))
+    Some(two_terms(words, place + 1 + k * 2))
 }

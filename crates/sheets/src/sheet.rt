@@ -1,7 +1,8 @@
 ghost use mathlib.Core.Path.{_≡_};
 ghost use denote.Ref.{now};
 ghost use Rattle.std.specs.Results.{Cases};
-ghost use Rattle.sheets.specs.Reads.{sheetMeaning, Wide, Counted, Starts, Found};
+ghost use Rattle.sheets.specs.Reads.{sheetMeaning};
+ghost use Rattle.sheets.specs.Facts.{Wide, Counted, Starts, Found};
 ghost use Rattle.sheets.specs.Laws.{Passing, Failing, Read-back, Opens};
 ghost use Rattle.sheets.specs.Wells.{sheet-well};
 use crate::fault::BookFault;
@@ -10,6 +11,7 @@ use crate::reads::left_in;
 use crate::reads::pair_in;
 use crate::reads::rows_in;
 use crate::reads::term_in;
+use crate::table::opened;
 use crate::table::table;
 use rules::book::Book;
 use rules::term::Kind;
@@ -43,25 +45,13 @@ impl<'a> Sheet<'a> {
         ensures same { λ r. ⌜ now (r .words) ≡ now (words .entry) ⌝ }
         ensures opens { λ r. ⌜ Opens (now (words .entry)) (sheetMeaning (now (r .words))) ⌝ }
     {
-        match table(words) {
-            Ok(t) => {
-                let starts = t.starts;
-                return Sheet {
-                    words,
-                    width: t.width,
-                    count: t.count,
-                    starts,
-                };
-            }
-            Err(_) => {
-                let starts = [0; 256];
-                return Sheet {
-                    words,
-                    width: 1,
-                    count: 0,
-                    starts,
-                };
-            }
+        let t = opened(words);
+        let starts = t.starts;
+        Sheet {
+            words,
+            width: t.width,
+            count: t.count,
+            starts,
         }
     }
 
@@ -90,13 +80,11 @@ pub impl<'a> Book for Sheet<'a> as SheetBook {
     }
 
     fn kind(&self, rule: usize) -> Option<Kind> {
-        let at = self.start(rule)?;
-        Some(kind_in(self.words, self.width, at))
+        Some(kind_in(self.words, self.width, self.start(rule)?))
     }
 
     fn rows(&self, rule: usize) -> Option<usize> {
-        let at = self.start(rule)?;
-        Some(rows_in(self.words, self.width, at))
+        Some(rows_in(self.words, self.width, self.start(rule)?))
     }
 
     fn term(&self, rule: usize, row: usize, column: usize) -> Option<Term> {

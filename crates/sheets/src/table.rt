@@ -5,7 +5,7 @@ ghost use lib.ListN.{length, getD};
 ghost use Rattle.std.specs.Results.{Cases};
 ghost use Rattle.std.specs.declared.result.Result.the-variants.{Ok, Err};
 ghost use Rattle.sheets.specs.Walk.{rulesEnd, sheetEnd};
-ghost use Rattle.sheets.specs.Reads.{Starts, Tabled};
+ghost use Rattle.sheets.specs.Facts.{Starts, Tabled, Opened};
 use crate::fault::BookFault;
 use crate::walk::rule;
 use crate::walk::word;
@@ -43,4 +43,21 @@ pub(crate) fn table(words: &[u32]) -> Result<Opening, BookFault>
         count,
         starts,
     })
+}
+
+// The same, where a sheet that fails the check has width 1 and no rules.
+pub(crate) fn opened(words: &[u32]) -> Opening
+    ensures { λ r. ⌜ Opened (now (words .entry)) (r .width) (r .count) (r .starts) ⌝ }
+{
+    match table(words) {
+        Ok(t) => t,
+        Err(_) => {
+            let starts = [0; 256];
+            Opening {
+                width: 1,
+                count: 0,
+                starts,
+            }
+        }
+    }
 }

@@ -6,6 +6,8 @@ ghost use lib.ListN.{length, getD};
 ghost use Rattle.std.specs.Results.{Cases};
 ghost use Rattle.sheets.specs.Walk.{wordIn, has, passes, each as eachIs, listsEnd, ruleEnd};
 use crate::fault::BookFault;
+use crate::want::BASE;
+use crate::want::LIMIT;
 use crate::want::Want;
 
 // The word at a place, in a range.
@@ -43,9 +45,9 @@ pub(crate) fn fits(want: Want, rows: &[u32], w: u32) -> bool
     ensures { λ r. ⌜ r ≡ passes want (now (rows .entry)) w ⌝ }
 {
     match want {
-        Want::Entry => w < 16777248,
-        Want::Left => w >= 16777216 && among(rows, w),
-        Want::Side => w < 16777216 || among(rows, w),
+        Want::Entry => w < LIMIT,
+        Want::Listed => w >= BASE && among(rows, w),
+        Want::Side => w < BASE || among(rows, w),
     }
 }
 
@@ -83,10 +85,10 @@ fn lists(words: &[u32], at: usize, kind: u32, rows: &[u32]) -> Result<usize, Boo
     let functional = kind == 1;
     let most = if functional { 32 } else { 0 };
     let lefts = word(words, at, 0, most)?;
-    let next = each(words, at + 1, lefts as usize, Want::Left, rows)?;
+    let next = each(words, at + 1, lefts as usize, Want::Listed, rows)?;
     let pairs = word(words, next, 0, 32)?;
     if functional {
-        return each(words, next + 1, pairs as usize, Want::Left, rows);
+        return each(words, next + 1, pairs as usize, Want::Listed, rows);
     }
     each(words, next + 1, pairs as usize * 2, Want::Side, rows)
 }
