@@ -1,0 +1,51 @@
+-- The faults of a key list.
+use mathlib.Core.Path.{_≡_}
+use mathlib.Core.Bool.{cond, _||_}
+use mathlib.Core.List.{List, [], _∷_}
+use Prim.Native.Nat.{ℕ, _+_, _%_, _^_, _<_, _≤_}
+use lib.Dec.{eqb, ltb}
+use lib.ListN.{length, getD}
+use Rattle.std.specs.declared.result.Result.{Result}
+use Rattle.std.specs.declared.result.Result.the-variants.{Ok, Err}
+use Rattle.rules.specs.declared.refusal.Layer.the-variants.{Book}
+use Rattle.rules.specs.declared.refusal.Refusal.{Refusal}
+use Rattle.keys.specs.declared.fault.KeyFault.{KeyFault}
+use Rattle.keys.specs.Keys.{Has-bit}
+
+abbrev pub refusalOf : KeyFault → Refusal
+refusalOf f = record { number = 7; layer = Book; place = f .place }
+
+abbrev pub Checked : Type 0
+Checked = Result (Unit {0}) KeyFault
+
+abbrev pub faultAt : ℕ → Checked
+faultAt place = Err (record { place = place })
+
+-- the first byte that is not below the limit, where the first of the list has this place
+abbrev pub lowFrom : ℕ → List ℕ → ℕ → Checked
+lowFrom limit [] place = Ok tt
+lowFrom limit (byte ∷ bytes) place = cond (ltb byte limit) (lowFrom limit bytes (place + 1)) (faultAt place)
+
+-- the check, test by test; what it comes to in plain words is First-fault
+abbrev pub checked : ℕ → List ℕ → Checked
+checked width bytes =
+    cond (ltb width 1 || ltb 8 width) (faultAt 0)
+    (cond (ltb 512 (length bytes)) (faultAt 512)
+    (cond (eqb (length bytes % 2) 0) (lowFrom (2 ^ width) bytes 0)
+    (faultAt (length bytes))))
+
+abbrev pub Narrow : ℕ → Type 0
+Narrow width = (1 ≤ width) × (width ≤ 8)
+
+-- the byte has a bit at or above the width
+abbrev pub High : ℕ → ℕ → Type 0
+High width byte = (j : ℕ) × (width ≤ j) × Has-bit byte j
+
+-- what fails first, and its place: the width, the number of bytes, a byte without its other, or a byte with a bit
+-- that stands for no column, where no byte before it has one
+pub data First-fault (width : ℕ) (bytes : List ℕ) (place : ℕ) : Type 0 where
+  of-width : (Narrow width → ⊥) → place ≡ 0 → First-fault width bytes place
+  of-number : Narrow width → 512 < length bytes → place ≡ 512 → First-fault width bytes place
+  of-pairing : Narrow width → length bytes ≤ 512 → length bytes % 2 ≡ 1 → place ≡ length bytes → First-fault width bytes place
+  of-byte : Narrow width → length bytes ≤ 512 → length bytes % 2 ≡ 0 → place < length bytes →
+      High width (getD bytes place 0) → ((i : ℕ) → i < place → High width (getD bytes i 0) → ⊥) → First-fault width bytes place
