@@ -28,7 +28,7 @@ fn run(rt: &LibcRuntime) -> Result<(), AnyError> {
     let second = lines.next().unwrap_or("");
     for line in lines {
         if !line.trim().is_empty() {
-            return Err("line 3: a sheet and a key list are two lines, and nothing follows them".into());
+            return Err("a sheet and a key list are two lines: after line 2 there is more".into());
         }
     }
     list(rt, first, second)
@@ -47,7 +47,7 @@ fn list(rt: &LibcRuntime, first: &str, second: &str) -> Result<(), AnyError> {
     }
     let (width, bytes) = key_list(rt.alloc(), second)?;
     let bytes = bytes.as_slice();
-    if let Err(fault) = keys::key_list::check(width, bytes) {
+    if let Err(fault) = keys::checking::check(width, bytes) {
         return print_refusal(rt, fault.refusal());
     }
     let keys = KeyList::open(width, bytes);

@@ -23,15 +23,17 @@ fn print_join<A: Book, B: Book>(rt: &LibcRuntime, case: &str, first: &A, second:
 pub fn print_joins(rt: &LibcRuntime) -> Result<(), AnyError> {
     let words = plain_sheet(rt.alloc(), 256)?;
     let full = Sheet::open(words.as_slice());
-    let one = Sheet::open(&[1, 1, 2, 1, 0, 0, 0]);
-    let wide = Sheet::open(&[2, 0]);
+    let one_words = plain_sheet(rt.alloc(), 1)?;
+    let one = Sheet::open(one_words.as_slice());
+    let wide_words = [2, 0];
+    let wide = Sheet::open(&wide_words);
     let half = Joined {
-        first: &full,
-        second: &full,
+        first: full,
+        second: full,
     };
     let most = Joined {
-        first: &half,
-        second: &half,
+        first: half,
+        second: half,
     };
     print_join(rt, "512 rules", &full, &full)?;
     print_join(rt, "1024 rules, a join of joins", &half, &half)?;

@@ -4,7 +4,7 @@ use crate::saying::print_refusal;
 use crate::saying::print_size;
 use keys::key_list::KeyList;
 use keys::key_list::KeyListBook;
-use keys::key_list::check;
+use keys::checking::check;
 use std::error::AnyError;
 use std::io;
 
