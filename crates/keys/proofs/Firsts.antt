@@ -16,8 +16,8 @@ use Rattle.std.specs.declared.result.Result.the-variants.{Ok, Err}
 use Rattle.std.proofs.shelf.Bits.{le-div, div-below}
 use Rattle.std.proofs.shelf.Ways.{leb-tells}
 use Rattle.keys.specs.declared.fault.KeyFault.{KeyFault}
-use Rattle.keys.specs.Keys.{Has-bit, Sound-keys}
-use Rattle.keys.specs.Faults.{Checked, Narrow, High, First-fault, of-width, of-number, of-pairing, of-byte, faultAt, lowFrom, checked}
+use Rattle.keys.specs.Keys.{Narrow, All-below, Sound-keys}
+use Rattle.keys.specs.Faults.{Checked, High, First-fault, of-width, of-number, of-pairing, of-byte, faultAt, lowFrom, andThen, checked}
 use Rattle.keys.specs.Laws.{Faults}
 
 -- a byte has a bit at or above the width exactly when it is not below its power
@@ -53,34 +53,27 @@ pub record First-from (limit : ℕ) (bytes : List ℕ) (start place : ℕ) : Typ
   pub place-is : place ≡ start + here
   pub inside : here < length bytes
   pub high : limit ≤ getD bytes here 0
-  pub before : (i : ℕ) → i < here → getD bytes i 0 < limit
+  pub before : All-below limit bytes here
 
-abbrev All-low : ℕ → List ℕ → Type 0
-All-low limit bytes = (i : ℕ) → i < length bytes → getD bytes i 0 < limit
+below-more : (limit byte : ℕ) (bytes : List ℕ) (n : ℕ) → byte < limit → All-below limit bytes n → All-below limit (byte ∷ bytes) (suc n)
+below-more limit byte bytes n h below zero l = h
+below-more limit byte bytes n h below (suc i) l = below i (omega arith)
 
-all-more : (limit byte : ℕ) (bytes : List ℕ) → byte < limit → All-low limit bytes → All-low limit (byte ∷ bytes)
-all-more limit byte bytes h below zero l = h
-all-more limit byte bytes h below (suc i) l = below i (omega arith)
-
-before-more : (limit byte : ℕ) (bytes : List ℕ) (n : ℕ) → byte < limit → ((i : ℕ) → i < n → getD bytes i 0 < limit) → (i : ℕ) → i < suc n → getD (byte ∷ bytes) i 0 < limit
-before-more limit byte bytes n h below zero l = h
-before-more limit byte bytes n h below (suc i) l = below i (omega arith)
-
-low-more : (limit byte : ℕ) (bytes : List ℕ) (start : ℕ) → byte < limit → (r : Checked) → Cases r (λ _. All-low limit bytes) (λ f. First-from limit bytes (start + 1) (f .place)) → Cases r (λ _. All-low limit (byte ∷ bytes)) (λ f. First-from limit (byte ∷ bytes) start (f .place))
-low-more limit byte bytes start h (Ok u) below = all-more limit byte bytes h below
+low-more : (limit byte : ℕ) (bytes : List ℕ) (start : ℕ) → byte < limit → (r : Checked) → Cases r (λ _. All-below limit bytes (length bytes)) (λ f. First-from limit bytes (start + 1) (f .place)) → Cases r (λ _. All-below limit (byte ∷ bytes) (length (byte ∷ bytes))) (λ f. First-from limit (byte ∷ bytes) start (f .place))
+low-more limit byte bytes start h (Ok u) below = below-more limit byte bytes (length bytes) h below
 low-more limit byte bytes start h (Err f) below = record {
   here = suc (below .here);
   place-is = let e = below .place-is in omega arith;
   inside = let l = below .inside in omega arith;
   high = below .high;
-  before = before-more limit byte bytes (below .here) h (below .before);
+  before = below-more limit byte bytes (below .here) h (below .before);
 }
 
-low-by : (limit byte : ℕ) (bytes : List ℕ) (start : ℕ) (b : Bool) → b ≡ ltb byte limit → Cases (lowFrom limit bytes (start + 1)) (λ _. All-low limit bytes) (λ f. First-from limit bytes (start + 1) (f .place)) → Cases (cond b (lowFrom limit bytes (start + 1)) (faultAt start)) (λ _. All-low limit (byte ∷ bytes)) (λ f. First-from limit (byte ∷ bytes) start (f .place))
+low-by : (limit byte : ℕ) (bytes : List ℕ) (start : ℕ) (b : Bool) → b ≡ ltb byte limit → Cases (lowFrom limit bytes (start + 1)) (λ _. All-below limit bytes (length bytes)) (λ f. First-from limit bytes (start + 1) (f .place)) → Cases (cond b (lowFrom limit bytes (start + 1)) (faultAt start)) (λ _. All-below limit (byte ∷ bytes) (length (byte ∷ bytes))) (λ f. First-from limit (byte ∷ bytes) start (f .place))
 low-by limit byte bytes start true e below = low-more limit byte bytes start (ltb-true _ _ (sym e)) (lowFrom limit bytes (start + 1)) below
 low-by limit byte bytes start false e below = record { here = 0; place-is = omega arith; inside = omega arith; high = ltb-false _ _ (sym e); before = λ i l. absurd (omega arith) }
 
-low-says : (limit : ℕ) (bytes : List ℕ) (start : ℕ) → Cases (lowFrom limit bytes start) (λ _. All-low limit bytes) (λ f. First-from limit bytes start (f .place))
+low-says : (limit : ℕ) (bytes : List ℕ) (start : ℕ) → Cases (lowFrom limit bytes start) (λ _. All-below limit bytes (length bytes)) (λ f. First-from limit bytes start (f .place))
 low-says limit [] start = λ i l. absurd (omega arith)
 low-says limit (byte ∷ bytes) start = low-by limit byte bytes start (ltb byte limit) refl (low-says limit bytes (start + 1))
 
@@ -97,22 +90,22 @@ Says width bytes r = Cases r (λ _. Sound-keys width bytes) (λ f. First-fault w
 fault : (width : ℕ) (bytes : List ℕ) (place : ℕ) → First-fault width bytes place → First-fault width bytes place × (Sound-keys width bytes → ⊥)
 fault width bytes place h = (h, not-both width bytes place h)
 
-bytes-say : (width : ℕ) (bytes : List ℕ) → Narrow width → length bytes ≤ 512 → length bytes % 2 ≡ 0 → (r : Checked) → Cases r (λ _. All-low (2 ^ width) bytes) (λ f. First-from (2 ^ width) bytes 0 (f .place)) → Says width bytes r
+bytes-say : (width : ℕ) (bytes : List ℕ) → Narrow width → length bytes ≤ 512 → length bytes % 2 ≡ 0 → (r : Checked) → Cases r (λ _. All-below (2 ^ width) bytes (length bytes)) (λ f. First-from (2 ^ width) bytes 0 (f .place)) → Says width bytes r
 bytes-say width bytes n l o (Ok u) h = record { some-width = n .0; small-width = n .1; few = l; paired = o; low = h }
 bytes-say width bytes n l o (Err f) h =
     let P : ℕ → Type 0 = λ p. First-fault width bytes p in
     let e : h .here ≡ f .place = let q = h .place-is in omega arith in
     fault width bytes (f .place) (subst P e (of-byte n l o (h .inside) (high-from width (getD bytes (h .here) 0) (h .high)) (λ i k. low-none width (getD bytes i 0) (h .before i k))))
 
-pairing-says : (width : ℕ) (bytes : List ℕ) (b : Bool) → Narrow width → length bytes ≤ 512 → b ≡ eqb (length bytes % 2) 0 → Says width bytes (cond b (lowFrom (2 ^ width) bytes 0) (faultAt (length bytes)))
+pairing-says : (width : ℕ) (bytes : List ℕ) (b : Bool) → Narrow width → length bytes ≤ 512 → b ≡ eqb (length bytes % 2) 0 → Says width bytes (andThen (cond b (Ok tt) (faultAt (length bytes))) (lowFrom (2 ^ width) bytes 0))
 pairing-says width bytes true n l e = bytes-say width bytes n l (eqb-true _ _ (sym e)) (lowFrom (2 ^ width) bytes 0) (low-says (2 ^ width) bytes 0)
 pairing-says width bytes false n l e = let o : length bytes % 2 ≡ 0 → ⊥ = eqb-false _ _ (sym e) in fault width bytes (length bytes) (of-pairing n l (omega arith) refl)
 
-number-says : (width : ℕ) (bytes : List ℕ) (b : Bool) → Narrow width → b ≡ ltb 512 (length bytes) → Says width bytes (cond b (faultAt 512) (cond (eqb (length bytes % 2) 0) (lowFrom (2 ^ width) bytes 0) (faultAt (length bytes))))
+number-says : (width : ℕ) (bytes : List ℕ) (b : Bool) → Narrow width → b ≡ ltb 512 (length bytes) → Says width bytes (andThen (cond b (faultAt 512) (cond (eqb (length bytes % 2) 0) (Ok tt) (faultAt (length bytes)))) (lowFrom (2 ^ width) bytes 0))
 number-says width bytes true n e = fault width bytes 512 (of-number n (ltb-true _ _ (sym e)) refl)
 number-says width bytes false n e = pairing-says width bytes (eqb (length bytes % 2) 0) n (ltb-false _ _ (sym e)) refl
 
-width-says : (width : ℕ) (bytes : List ℕ) (a b : Bool) → a ≡ ltb width 1 → b ≡ ltb 8 width → Says width bytes (cond (a || b) (faultAt 0) (cond (ltb 512 (length bytes)) (faultAt 512) (cond (eqb (length bytes % 2) 0) (lowFrom (2 ^ width) bytes 0) (faultAt (length bytes)))))
+width-says : (width : ℕ) (bytes : List ℕ) (a b : Bool) → a ≡ ltb width 1 → b ≡ ltb 8 width → Says width bytes (andThen (cond (a || b) (faultAt 0) (cond (ltb 512 (length bytes)) (faultAt 512) (cond (eqb (length bytes % 2) 0) (Ok tt) (faultAt (length bytes))))) (lowFrom (2 ^ width) bytes 0))
 width-says width bytes true b e f = let h = ltb-true _ _ (sym e) in fault width bytes 0 (of-width (λ n. omega arith) refl)
 width-says width bytes false true e f = let h = ltb-true _ _ (sym f) in fault width bytes 0 (of-width (λ n. omega arith) refl)
 width-says width bytes false false e f = number-says width bytes (ltb 512 (length bytes)) (ltb-false _ _ (sym e), ltb-false _ _ (sym f)) refl

@@ -2,52 +2,51 @@
 use mathlib.Core.Path.{_≡_, refl, sym, ap, _∙_}
 use mathlib.Core.Bool.{true, false, cond}
 use mathlib.Core.List.{List, [], _∷_, map}
-use Prim.Native.Nat.{ℕ, zero, suc, _+_, _-_, _*_, _/_, _%_, _^_, _≤_, _<_}
+use Prim.Native.Nat.{ℕ, zero, suc, _+_, _-_, _*_, _/_, _^_, _≤_, _<_}
 use native.Mathlib.Omega.{arith}
-use borrow.Author.Tests.{lt-ltb, le-ltb, eq-eqb, ne-eqb}
-use lib.Dec.{ltb, eqb}
-use lib.ListN.{length, getD, drop}
+use borrow.Author.Tests.{lt-ltb, le-ltb}
+use lib.ListN.{length, getD}
 use Rattle.std.specs.Iters.{counting}
 use Rattle.std.specs.Options.{mapped}
 use Rattle.std.specs.shelf.Lists.{kept-by}
 use Rattle.std.specs.shelf.Maps.{nth}
 use Rattle.std.specs.declared.option.Option.{Option}
 use Rattle.std.specs.declared.option.Option.the-variants.{Some, None}
+use Rattle.std.specs.declared.result.Result.the-variants.{Ok, Err}
 use Rattle.std.proofs.shelf.Counted.{length-map-counting, getD-map-counting}
-use Rattle.std.proofs.shelf.Lists.{drop-more}
 use Rattle.std.proofs.shelf.Maps.{nth-getD, nth-past}
 use Rattle.rules.specs.Rules.{Rule}
 use Rattle.rules.specs.Books.{within, termAt, pairAt}
 use Rattle.rules.specs.declared.term.Term.{Term}
 use Rattle.rules.specs.declared.term.Term.the-variants.{Variable}
-use Rattle.keys.specs.Keys.{Has-bit, hasBit, columns, variables, twice, keyRule, keyRules}
-use Rattle.keys.specs.Faults.{Narrow, checked, faultAt, lowFrom}
+use Rattle.keys.specs.Keys.{hasBit, columns, variables, twice, keyRule, keyRules, All-below}
+use Rattle.keys.specs.declared.fault.KeyFault.{KeyFault}
+use Rattle.keys.specs.Faults.{faultAt, shaped, lowFrom, andThen, checked}
 
--- the bytes from a place on
-pub low-more : (limit : ℕ) (bytes : List ℕ) (i : ℕ) → i < length bytes → getD bytes i 0 < limit → lowFrom limit (drop i bytes) i ≡ lowFrom limit (drop (i + 1) bytes) (i + 1)
-low-more limit bytes i h l = ap (λ s. lowFrom limit s i) (drop-more bytes i 0 h) ∙ ap (λ t. cond t (lowFrom limit (drop (i + 1) bytes) (i + 1)) (faultAt i)) (lt-ltb _ _ l)
+-- the tests of the bytes, from what was found
+pub low-all : (limit : ℕ) (bytes : List ℕ) (place : ℕ) → All-below limit bytes (length bytes) → lowFrom limit bytes place ≡ Ok tt
+low-all limit [] place h = refl
+low-all limit (byte ∷ bytes) place h =
+    ap (λ t. cond t (lowFrom limit bytes (place + 1)) (faultAt place)) (lt-ltb byte limit (h 0 (omega arith)))
+    ∙ low-all limit bytes (place + 1) (λ i l. h (suc i) (omega arith))
 
-pub low-here : (limit : ℕ) (bytes : List ℕ) (i : ℕ) → i < length bytes → limit ≤ getD bytes i 0 → lowFrom limit (drop i bytes) i ≡ faultAt i
-low-here limit bytes i h l = ap (λ s. lowFrom limit s i) (drop-more bytes i 0 h) ∙ ap (λ t. cond t (lowFrom limit (drop (i + 1) bytes) (i + 1)) (faultAt i)) (le-ltb _ _ l)
-
--- the tests before the walk over the bytes
-pub checked-bytes : (width : ℕ) (bytes : List ℕ) → Narrow width → length bytes ≤ 512 → length bytes % 2 ≡ 0 → checked width bytes ≡ lowFrom (2 ^ width) bytes 0
-checked-bytes width bytes n l e =
-    let a : ltb width 1 ≡ false = le-ltb width 1 (n .0) in
-    let b : ltb 8 width ≡ false = le-ltb 8 width (n .1) in
-    let c : ltb 512 (length bytes) ≡ false = le-ltb 512 (length bytes) l in
-    let d : eqb (length bytes % 2) 0 ≡ true = eq-eqb (length bytes % 2) 0 e in
-    rw (a, b, c, d)
+pub low-first : (limit : ℕ) (bytes : List ℕ) (place i : ℕ) → i < length bytes → limit ≤ getD bytes i 0 → All-below limit bytes i → lowFrom limit bytes place ≡ faultAt (place + i)
+low-first limit [] place i l h below = absurd (omega arith)
+low-first limit (byte ∷ bytes) place zero l h below =
+    ap (λ t. cond t (lowFrom limit bytes (place + 1)) (faultAt place)) (le-ltb byte limit h) ∙ ap faultAt (omega arith)
+low-first limit (byte ∷ bytes) place (suc i) l h below =
+    ap (λ t. cond t (lowFrom limit bytes (place + 1)) (faultAt place)) (lt-ltb byte limit (below 0 (omega arith)))
+    ∙ low-first limit bytes (place + 1) i (omega arith) h (λ k m. below (suc k) (omega arith)) ∙ ap faultAt (omega arith)
 
 -- the columns from one on
 abbrev pub columnsFrom : ℕ → ℕ → ℕ → List ℕ
 columnsFrom byte j n = kept-by (hasBit byte) (counting j n)
 
-pub column-set : (byte j n m : ℕ) → n ≡ suc m → Has-bit byte j → columnsFrom byte j n ≡ j ∷ columnsFrom byte (j + 1) m
-column-set byte j n m e h = ap (columnsFrom byte j) e ∙ ap (λ t. cond t (j ∷ columnsFrom byte (j + 1) m) (columnsFrom byte (j + 1) m)) (eq-eqb _ _ h)
+pub column-set : (byte j n m : ℕ) → n ≡ suc m → hasBit byte j ≡ true → columnsFrom byte j n ≡ j ∷ columnsFrom byte (j + 1) m
+column-set byte j n m e h = ap (columnsFrom byte j) e ∙ ap (λ t. cond t (j ∷ columnsFrom byte (j + 1) m) (columnsFrom byte (j + 1) m)) h
 
-pub column-clear : (byte j n m : ℕ) → n ≡ suc m → (Has-bit byte j → ⊥) → columnsFrom byte j n ≡ columnsFrom byte (j + 1) m
-column-clear byte j n m e h = ap (columnsFrom byte j) e ∙ ap (λ t. cond t (j ∷ columnsFrom byte (j + 1) m) (columnsFrom byte (j + 1) m)) (ne-eqb _ _ h)
+pub column-clear : (byte j n m : ℕ) → n ≡ suc m → hasBit byte j ≡ false → columnsFrom byte j n ≡ columnsFrom byte (j + 1) m
+column-clear byte j n m e h = ap (columnsFrom byte j) e ∙ ap (λ t. cond t (j ∷ columnsFrom byte (j + 1) m) (columnsFrom byte (j + 1) m)) h
 
 pub nth-later : {X : Type 0} (x : X) (xs : List X) (i : ℕ) → 0 < i → nth (x ∷ xs) i ≡ nth xs (i - 1)
 nth-later x xs zero h = absurd (omega arith)
@@ -104,3 +103,10 @@ module _ (rules : List Rule) (i width left right : ℕ) (e : nth rules i ≡ Som
 
   pub pair-here : (k : ℕ) (o : Option ℕ) → o ≡ nth (columns width right) k → pairAt rules i k ≡ mapped twice o
   pair-here k o h = ap (λ r. within r (λ r. nth (r .pairs) k)) e ∙ nth-map twice (columns width right) k ∙ ap (mapped twice) (sym h)
+
+-- the check, from its two parts
+pub check-failed : (width : ℕ) (bytes : List ℕ) (f : KeyFault) → Err f ≡ shaped width (length bytes) → checked width bytes ≡ Err f
+check-failed width bytes f e = ap (λ r. andThen r (lowFrom (2 ^ width) bytes 0)) (sym e)
+
+pub check-low : (width : ℕ) (bytes : List ℕ) (limit : ℕ) → limit ≡ 2 ^ width → Ok tt ≡ shaped width (length bytes) → checked width bytes ≡ lowFrom limit bytes 0
+check-low width bytes limit l e = ap (λ r. andThen r (lowFrom (2 ^ width) bytes 0)) (sym e) ∙ ap (λ n. lowFrom n bytes 0) (sym l)

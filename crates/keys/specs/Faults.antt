@@ -10,7 +10,7 @@ use Rattle.std.specs.declared.result.Result.the-variants.{Ok, Err}
 use Rattle.rules.specs.declared.refusal.Layer.the-variants.{Book}
 use Rattle.rules.specs.declared.refusal.Refusal.{Refusal}
 use Rattle.keys.specs.declared.fault.KeyFault.{KeyFault}
-use Rattle.keys.specs.Keys.{Has-bit}
+use Rattle.keys.specs.Keys.{Has-bit, Narrow}
 
 abbrev pub refusalOf : KeyFault → Refusal
 refusalOf f = record { number = 7; layer = Book; place = f .place }
@@ -21,21 +21,26 @@ Checked = Result (Unit {0}) KeyFault
 abbrev pub faultAt : ℕ → Checked
 faultAt place = Err (record { place = place })
 
--- the first byte that is not below the limit, where the first of the list has this place
+-- the tests of the width and of the number of bytes
+abbrev pub shaped : ℕ → ℕ → Checked
+shaped width count =
+    cond (ltb width 1 || ltb 8 width) (faultAt 0)
+    (cond (ltb 512 count) (faultAt 512)
+    (cond (eqb (count % 2) 0) (Ok tt) (faultAt count)))
+
+-- the tests of the bytes, the first of which has this place
 abbrev pub lowFrom : ℕ → List ℕ → ℕ → Checked
 lowFrom limit [] place = Ok tt
 lowFrom limit (byte ∷ bytes) place = cond (ltb byte limit) (lowFrom limit bytes (place + 1)) (faultAt place)
 
+-- then, unless there is a fault
+abbrev pub andThen : Checked → Checked → Checked
+andThen (Ok u) next = next
+andThen (Err f) next = Err f
+
 -- the check, test by test; what it comes to in plain words is First-fault
 abbrev pub checked : ℕ → List ℕ → Checked
-checked width bytes =
-    cond (ltb width 1 || ltb 8 width) (faultAt 0)
-    (cond (ltb 512 (length bytes)) (faultAt 512)
-    (cond (eqb (length bytes % 2) 0) (lowFrom (2 ^ width) bytes 0)
-    (faultAt (length bytes))))
-
-abbrev pub Narrow : ℕ → Type 0
-Narrow width = (1 ≤ width) × (width ≤ 8)
+checked width bytes = andThen (shaped width (length bytes)) (lowFrom (2 ^ width) bytes 0)
 
 -- the byte has a bit at or above the width
 abbrev pub High : ℕ → ℕ → Type 0

@@ -50,6 +50,17 @@ keyRules width (left ∷ right ∷ bytes) = keyRule width left right ∷ keyRule
 abbrev pub keysMeaning : ℕ → List ℕ → BookMeaning
 keysMeaning width bytes = record { width = width; rules = keyRules width bytes }
 
+-- the bytes before a place are below a limit
+abbrev pub All-below : ℕ → List ℕ → ℕ → Type 0
+All-below limit bytes n = (i : ℕ) → i < n → getD bytes i 0 < limit
+
+abbrev pub Narrow : ℕ → Type 0
+Narrow width = (1 ≤ width) × (width ≤ 8)
+
+-- a width and a number of bytes that a key list may have
+abbrev pub Shaped : ℕ → ℕ → Type 0
+Shaped width count = Narrow width × (count ≤ 512) × (count % 2 ≡ 0)
+
 -- a key list that passes the check
 pub record Sound-keys (width : ℕ) (bytes : List ℕ) : Type 0 where
   pub some-width : 1 ≤ width

@@ -1,20 +1,40 @@
 // The check of a key list.
 ghost use mathlib.Core.Path.{_≡_};
+ghost use Prim.Native.Nat.{_<_, _≤_};
+ghost use lib.ListN.{length, getD};
+ghost use Rattle.std.specs.Options.{Cases as BySome};
 ghost use Rattle.std.specs.Results.{Cases};
-ghost use Rattle.keys.specs.Keys.{Sound-keys};
-ghost use Rattle.keys.specs.Faults.{First-fault, checked, lowFrom};
+ghost use Rattle.keys.specs.Keys.{All-below, Shaped, Sound-keys};
+ghost use Rattle.keys.specs.Faults.{First-fault, checked, shaped};
 use crate::fault::KeyFault;
 
-// Looks for the first byte that is not below the limit.
-fn each_low(bytes: &[u8], limit: u16) -> Result<(), KeyFault>
-    ensures { λ r. ⌜ r ≡ lowFrom limit (now (bytes .entry)) 0 ⌝ }
+// Checks the width and the number of bytes.
+fn shape(width: usize, count: usize) -> Result<(), KeyFault>
+    ensures value { λ r. ⌜ r ≡ shaped width count ⌝ }
+    ensures fits { λ r. ⌜ Cases r (λ _. Shaped width count) (λ _. Unit {0}) ⌝ }
+{
+    if width < 1 || width > 8 {
+        return Err(KeyFault { place: 0 });
+    }
+    if count > 512 {
+        return Err(KeyFault { place: 512 });
+    }
+    if count % 2 != 0 {
+        return Err(KeyFault { place: count });
+    }
+    Ok(())
+}
+
+// The place of the first byte that is not below the limit.
+fn first_high(bytes: &[u8], limit: u16) -> Option<usize>
+    ensures { λ r. ⌜ BySome r (All-below limit (now (bytes .entry)) (length (now (bytes .entry)))) (λ i. (i < length (now (bytes .entry))) × (limit ≤ getD (now (bytes .entry)) i 0) × All-below limit (now (bytes .entry)) i) ⌝ }
 {
     for (i, byte) in bytes.iter().enumerate() {
         if u16::from(*byte) >= limit {
-            return Err(KeyFault { place: i });
+            return Some(i);
         }
     }
-    Ok(())
+    None
 }
 
 // Checks a key list, and tells the place of its first fault.
@@ -22,14 +42,9 @@ pub fn check(width: usize, bytes: &[u8]) -> Result<(), KeyFault>
     ensures value { λ r. ⌜ r ≡ checked width (now (bytes .entry)) ⌝ }
     ensures says { λ r. ⌜ Cases r (λ _. Sound-keys width (now (bytes .entry))) (λ f. First-fault width (now (bytes .entry)) (f .place) × (Sound-keys width (now (bytes .entry)) → ⊥)) ⌝ }
 {
-    if width < 1 || width > 8 {
-        return Err(KeyFault { place: 0 });
+    shape(width, bytes.len())?;
+    match first_high(bytes, 1 << width) {
+        Some(place) => Err(KeyFault { place }),
+        None => Ok(()),
     }
-    if bytes.len() > 512 {
-        return Err(KeyFault { place: 512 });
-    }
-    if bytes.len() % 2 != 0 {
-        return Err(KeyFault { place: bytes.len() });
-    }
-    each_low(bytes, 1 << width)
 }

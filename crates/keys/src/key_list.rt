@@ -10,6 +10,7 @@ ghost use Rattle.keys.specs.Laws.{Opens};
 ghost use Rattle.keys.specs.Wells.{keys-well};
 use crate::checking::check;
 use crate::columns::column;
+use crate::laws::keys_are_dependencies;
 use rules::book::Book;
 use rules::term::Kind;
 use rules::term::Term;
@@ -36,6 +37,7 @@ impl<'a> KeyList<'a> {
     pub fn open(width: usize, bytes: &'a [u8]) -> KeyList<'a>
         ensures { λ r. ⌜ Opens width (now (bytes .entry)) (keysMeaning (r .width) (now (r .bytes))) ⌝ }
     {
+        keys_are_dependencies();
         match check(width, bytes) {
             Ok(()) => {
                 return KeyList { width, bytes };
