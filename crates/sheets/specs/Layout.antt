@@ -10,6 +10,7 @@ use Rattle.rules.specs.declared.term.Term.the-variants.{Constant, Variable}
 use Rattle.rules.specs.declared.term.Kind.{Kind}
 use Rattle.rules.specs.declared.term.Kind.the-variants.{Functional, Equality}
 
+-- the word of a term, and of a kind
 abbrev pub wordOf : Term → ℕ
 wordOf (Constant c) = c
 wordOf (Variable v) = base + v
@@ -26,7 +27,7 @@ pairWords Equality p = wordOf (p .0) ∷ wordOf (p .1) ∷ []
 abbrev pub leftWords : ℕ → List ℕ
 leftWords v = (base + v) ∷ []
 
--- the lists of a rule, and the whole rule
+-- the lists of a rule, each after its count; the whole rule, its rows one after another; and the whole book
 unfoldable pub layoutLists : Rule → List ℕ
 layoutLists r = length (r .left) ∷ (joined leftWords (r .left) ++ (length (r .pairs) ∷ joined (pairWords (r .kind)) (r .pairs)))
 

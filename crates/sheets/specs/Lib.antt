@@ -1,3 +1,4 @@
+pub mod Faults
 pub mod Walk
 pub mod Layout
 pub mod Reads

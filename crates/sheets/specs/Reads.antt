@@ -19,12 +19,14 @@ abbrev pub slots : {X : Type 0} → (ℕ → X) → ℕ → ℕ → ℕ → List
 slots f size zero at = []
 slots f size (suc n) at = f at ∷ slots f size n (at + size)
 
+-- what a word says as a term, and as a kind
 abbrev pub termOf : ℕ → Term
 termOf w = cond (ltb w base) (Constant w) (Variable (w - base))
 
 abbrev pub kindOf : ℕ → Kind
 kindOf w = cond (eqb w 1) Functional Equality
 
+-- what stands at a place: a term, a left variable, a pair of a rule of this kind
 abbrev pub termIn : List ℕ → ℕ → Term
 termIn words p = termOf (getD words p 0)
 
@@ -63,10 +65,11 @@ abbrev pub startOf : List ℕ → ℕ → ℕ → ℕ → ℕ
 startOf words width zero at = at
 startOf words width (suc i) at = startOf words width i (endOf words width at)
 
+-- what a sheet means that fails the check
 abbrev pub empty-book : BookMeaning
 empty-book = record { width = 1; rules = [] }
 
--- what a sheet means; one that fails the check has width 1 and no rules
+-- what a sheet means
 abbrev pub meaningBy : List ℕ → Out ℕ → BookMeaning
 meaningBy words (Ok e) = record { width = getD words 0 0; rules = rulesAt words (getD words 0 0) (getD words 1 0) 2 }
 meaningBy words (Err e) = empty-book

@@ -7,20 +7,15 @@ use lib.ListN.{length, getD, take, drop}
 use Rattle.std.specs.declared.result.Result.{Result}
 use Rattle.std.specs.declared.result.Result.the-variants.{Ok, Err}
 use Rattle.rules.specs.Books.{base}
-use Rattle.rules.specs.declared.refusal.Refusal.{Refusal}
-use Rattle.rules.specs.declared.refusal.Layer.the-variants.{Book}
 use Rattle.sheets.specs.declared.fault.BookFault.{BookFault}
 use Rattle.sheets.specs.declared.want.Want.{Want}
 use Rattle.sheets.specs.declared.want.Want.the-variants.{Entry, Listed, Side}
-
--- the refusal that a fault is
-abbrev pub book-refusal : BookFault → Refusal
-book-refusal f = record { number = 7; layer = Book; place = f .place }
 
 -- the words of terms are below this: first those of the constants, then those of the 32 variables
 abbrev pub limit : ℕ
 limit = base + 32
 
+-- a result of the walk, or its fault
 abbrev pub Out : Type 0 → Type 0
 Out X = Result X BookFault
 

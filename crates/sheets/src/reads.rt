@@ -22,7 +22,7 @@ fn term_of(w: u32) -> Term
     Term::Variable((w - BASE) as u8)
 }
 
-pub(crate) fn kind_of(w: u32) -> Kind
+fn kind_of(w: u32) -> Kind
     ensures { λ r. ⌜ r ≡ kindOf w ⌝ }
 {
     if w == 1 {

@@ -1,6 +1,6 @@
 // The fault of a book as a refusal.
 ghost use mathlib.Core.Path.{_≡_};
-ghost use Rattle.sheets.specs.Walk.{book-refusal};
+ghost use Rattle.sheets.specs.Faults.{book-refusal};
 use crate::fault::BookFault;
 use rules::refusal::Layer;
 use rules::refusal::Refusal;
