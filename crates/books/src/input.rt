@@ -36,7 +36,13 @@ pub fn key_list(heap: Global, line: &str) -> Result<(usize, Vec<u8>), AnyError> 
 }
 
 // What is wrong, by its line and word, both from 1.
-fn bad_word(heap: Global, line: usize, index: usize, word: &str, wanted: &str) -> Result<AnyError, AllocError> {
+fn bad_word(
+    heap: Global,
+    line: usize,
+    index: usize,
+    word: &str,
+    wanted: &str,
+) -> Result<AnyError, AllocError> {
     let place = index.saturating_add(1);
     let text = format!(heap, "line {line}, word {place}: '{word}' is not {wanted}")?;
     Ok(text.into())

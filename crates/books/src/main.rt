@@ -1,6 +1,7 @@
 // Joins a sheet and a key list, and lists the book that they make.
 mod input;
 mod listing;
+
 use input::key_list;
 use input::sheet_words;
 use joins::joined::Joined;
@@ -54,11 +55,22 @@ fn list(rt: &LibcRuntime, first: &str, second: &str) -> Result<(), AnyError> {
     if let Err(fault) = check_join(&sheet, &keys) {
         return print_refusal(rt, fault.refusal());
     }
-    print_book(rt, &Joined { first: &sheet, second: &keys })?;
+    print_book(
+        rt,
+        &Joined {
+            first: &sheet,
+            second: &keys,
+        },
+    )?;
     print_sum(rt, sheet.width(), sheet.count(), Some(keys.count()))
 }
 
-fn print_sum(rt: &LibcRuntime, width: usize, sheet: usize, keys: Option<usize>) -> Result<(), AnyError> {
+fn print_sum(
+    rt: &LibcRuntime,
+    width: usize,
+    sheet: usize,
+    keys: Option<usize>,
+) -> Result<(), AnyError> {
     let noun = if sheet == 1 { "rule" } else { "rules" };
     print!(rt, "width {width}: {sheet} {noun} from the sheet")?;
     if let Some(n) = keys {

@@ -13,7 +13,12 @@ use std::error::AnyError;
 use std::io;
 
 // The question's answer, and what the joined book is.
-fn print_join<A: Book, B: Book>(rt: &LibcRuntime, case: &str, first: &A, second: &B) -> io::Result<()> {
+fn print_join<A: Book, B: Book>(
+    rt: &LibcRuntime,
+    case: &str,
+    first: &A,
+    second: &B,
+) -> io::Result<()> {
     if let Err(fault) = check_join(first, second) {
         print_refusal(rt, case, fault.refusal())?;
     }

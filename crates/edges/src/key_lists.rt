@@ -2,9 +2,9 @@
 use crate::making::key_bytes;
 use crate::saying::print_refusal;
 use crate::saying::print_size;
+use keys::checking::check;
 use keys::key_list::KeyList;
 use keys::key_list::KeyListBook;
-use keys::checking::check;
 use std::error::AnyError;
 use std::io;
 

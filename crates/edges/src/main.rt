@@ -4,6 +4,7 @@ mod key_lists;
 mod making;
 mod saying;
 mod sheet_words;
+
 use std::error::AnyError;
 
 fn main(rt: LibcRuntime) -> Result<(), AnyError> {

@@ -18,6 +18,13 @@ pub fn print_refusal(rt: &LibcRuntime, case: &str, refusal: Refusal) -> io::Resu
 pub fn print_size<B: Book>(rt: &LibcRuntime, case: &str, book: &B) -> io::Result<()> {
     let width = book.width();
     let count = book.count();
-    let past = if book.kind(count).is_none() { "none" } else { "some" };
-    println!(rt, "{case}: width {width}, {count} rules, {past} past the end")
+    let past = if book.kind(count).is_none() {
+        "none"
+    } else {
+        "some"
+    };
+    println!(
+        rt,
+        "{case}: width {width}, {count} rules, {past} past the end"
+    )
 }

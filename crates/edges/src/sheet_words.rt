@@ -26,23 +26,70 @@ pub fn print_ranges(rt: &LibcRuntime) -> Result<(), AnyError> {
     print_sheet(rt, "no kind 3", &[1, 1, 3, 1, 7, 0, 0])?;
     print_sheet(rt, "no row", &[1, 1, 2, 0, 0, 0])?;
     print_sheet(rt, "five rows", &[1, 1, 2, 5, 7, 7, 7, 7, 7, 0, 0])?;
-    print_sheet(rt, "greatest constant", &[1, 1, 2, 1, 16777215, 0, 1, 16777215, 16777215])?;
-    print_sheet(rt, "a constant past it is variable 0", &[1, 1, 2, 1, 7, 0, 1, 16777215, 16777216])?;
-    print_sheet(rt, "greatest variable", &[1, 1, 1, 1, 16777247, 1, 16777247, 1, 16777247])?;
+    print_sheet(
+        rt,
+        "greatest constant",
+        &[1, 1, 2, 1, 16777215, 0, 1, 16777215, 16777215],
+    )?;
+    print_sheet(
+        rt,
+        "a constant past it is variable 0",
+        &[1, 1, 2, 1, 7, 0, 1, 16777215, 16777216],
+    )?;
+    print_sheet(
+        rt,
+        "greatest variable",
+        &[1, 1, 1, 1, 16777247, 1, 16777247, 1, 16777247],
+    )?;
     print_sheet(rt, "a variable past it", &[1, 1, 1, 1, 16777248, 0, 0])?;
-    print_sheet(rt, "a left variable not in the rows", &[1, 1, 1, 1, 16777216, 1, 16777217, 0])?;
+    print_sheet(
+        rt,
+        "a left variable not in the rows",
+        &[1, 1, 1, 1, 16777216, 1, 16777217, 0],
+    )?;
     print_sheet(rt, "a constant on the left", &[1, 1, 1, 1, 7, 1, 7, 0])?;
-    print_sheet(rt, "a right variable not in the rows", &[1, 1, 1, 1, 16777216, 0, 1, 16777217])?;
+    print_sheet(
+        rt,
+        "a right variable not in the rows",
+        &[1, 1, 1, 1, 16777216, 0, 1, 16777217],
+    )?;
     print_sheet(rt, "33 left variables", &[1, 1, 1, 1, 16777216, 33])?;
     print_sheet(rt, "33 pairs", &[1, 1, 2, 1, 7, 0, 33])?;
-    print_sheet(rt, "equality with a left count", &[1, 1, 2, 1, 16777216, 1, 16777216, 0])?;
-    print_sheet(rt, "words after the last rule", &[1, 1, 2, 1, 7, 0, 0, 4294967295, 9])?;
+    print_sheet(
+        rt,
+        "equality with a left count",
+        &[1, 1, 2, 1, 16777216, 1, 16777216, 0],
+    )?;
+    print_sheet(
+        rt,
+        "words after the last rule",
+        &[1, 1, 2, 1, 7, 0, 0, 4294967295, 9],
+    )?;
     Ok(())
 }
 
 // The front of a sheet is refused at its length, wherever it is cut.
 pub fn print_cuts(rt: &LibcRuntime) -> Result<(), AnyError> {
-    let words = [2, 2, 1, 1, 16777216, 16777217, 1, 16777216, 1, 16777217, 2, 1, 16777216, 7, 0, 1, 16777216, 7];
+    let words = [
+        2,
+        2,
+        1,
+        1,
+        16777216,
+        16777217,
+        1,
+        16777216,
+        1,
+        16777217,
+        2,
+        1,
+        16777216,
+        7,
+        0,
+        1,
+        16777216,
+        7,
+    ];
     for cut in 0..words.len() {
         match check(&words[0..cut]) {
             Ok(()) => println!(rt, "cut at {cut}: passes")?,

@@ -15,7 +15,7 @@ use Rattle.std.specs.Results.{Cases}
 use Rattle.std.specs.declared.result.Result.the-variants.{Ok, Err}
 use Rattle.std.proofs.shelf.Bits.{le-div, div-below}
 use Rattle.std.proofs.shelf.Ways.{leb-tells}
-use Rattle.keys.specs.declared.fault.KeyFault.{KeyFault}
+use Rattle.rules.specs.declared.fault.BookFault.{BookFault}
 use Rattle.keys.specs.Keys.{Narrow, All-below, Sound-keys}
 use Rattle.keys.specs.Faults.{Checked, High, First-fault, of-width, of-number, of-pairing, of-byte, faultAt, lowFrom, andThen, checked}
 use Rattle.keys.specs.Laws.{Faults}

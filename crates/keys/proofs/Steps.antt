@@ -20,7 +20,7 @@ use Rattle.rules.specs.Books.{within, termAt, pairAt}
 use Rattle.rules.specs.declared.term.Term.{Term}
 use Rattle.rules.specs.declared.term.Term.the-variants.{Variable}
 use Rattle.keys.specs.Keys.{hasBit, columns, variables, twice, keyRule, keyRules, All-below}
-use Rattle.keys.specs.declared.fault.KeyFault.{KeyFault}
+use Rattle.rules.specs.declared.fault.BookFault.{BookFault}
 use Rattle.keys.specs.Faults.{faultAt, shaped, lowFrom, andThen, checked}
 
 -- the tests of the bytes, from what was found
@@ -105,7 +105,7 @@ module _ (rules : List Rule) (i width left right : ℕ) (e : nth rules i ≡ Som
   pair-here k o h = ap (λ r. within r (λ r. nth (r .pairs) k)) e ∙ nth-map twice (columns width right) k ∙ ap (mapped twice) (sym h)
 
 -- the check, from its two parts
-pub check-failed : (width : ℕ) (bytes : List ℕ) (f : KeyFault) → Err f ≡ shaped width (length bytes) → checked width bytes ≡ Err f
+pub check-failed : (width : ℕ) (bytes : List ℕ) (f : BookFault) → Err f ≡ shaped width (length bytes) → checked width bytes ≡ Err f
 check-failed width bytes f e = ap (λ r. andThen r (lowFrom (2 ^ width) bytes 0)) (sym e)
 
 pub check-low : (width : ℕ) (bytes : List ℕ) (limit : ℕ) → limit ≡ 2 ^ width → Ok tt ≡ shaped width (length bytes) → checked width bytes ≡ lowFrom limit bytes 0

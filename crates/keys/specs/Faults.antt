@@ -7,16 +7,11 @@ use lib.Dec.{eqb, ltb}
 use lib.ListN.{length, getD}
 use Rattle.std.specs.declared.result.Result.{Result}
 use Rattle.std.specs.declared.result.Result.the-variants.{Ok, Err}
-use Rattle.rules.specs.declared.refusal.Layer.the-variants.{Book}
-use Rattle.rules.specs.declared.refusal.Refusal.{Refusal}
-use Rattle.keys.specs.declared.fault.KeyFault.{KeyFault}
+use Rattle.rules.specs.declared.fault.BookFault.{BookFault}
 use Rattle.keys.specs.Keys.{Has-bit, Narrow}
 
-abbrev pub refusalOf : KeyFault → Refusal
-refusalOf f = record { number = 7; layer = Book; place = f .place }
-
 abbrev pub Checked : Type 0
-Checked = Result (Unit {0}) KeyFault
+Checked = Result (Unit {0}) BookFault
 
 abbrev pub faultAt : ℕ → Checked
 faultAt place = Err (record { place = place })

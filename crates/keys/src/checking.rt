@@ -6,21 +6,21 @@ ghost use Rattle.std.specs.Options.{Cases as BySome};
 ghost use Rattle.std.specs.Results.{Cases};
 ghost use Rattle.keys.specs.Keys.{All-below, Shaped, Sound-keys};
 ghost use Rattle.keys.specs.Faults.{First-fault, checked, shaped};
-use crate::fault::KeyFault;
+use rules::fault::BookFault;
 
 // Checks the width and the number of bytes.
-fn shape(width: usize, count: usize) -> Result<(), KeyFault>
+fn shape(width: usize, count: usize) -> Result<(), BookFault>
     ensures value { λ r. ⌜ r ≡ shaped width count ⌝ }
     ensures fits { λ r. ⌜ Cases r (λ _. Shaped width count) (λ _. Unit {0}) ⌝ }
 {
     if width < 1 || width > 8 {
-        return Err(KeyFault { place: 0 });
+        return Err(BookFault { place: 0 });
     }
     if count > 512 {
-        return Err(KeyFault { place: 512 });
+        return Err(BookFault { place: 512 });
     }
     if count % 2 != 0 {
-        return Err(KeyFault { place: count });
+        return Err(BookFault { place: count });
     }
     Ok(())
 }
@@ -38,13 +38,13 @@ fn first_high(bytes: &[u8], limit: u16) -> Option<usize>
 }
 
 // Checks a key list, and tells the place of its first fault.
-pub fn check(width: usize, bytes: &[u8]) -> Result<(), KeyFault>
+pub fn check(width: usize, bytes: &[u8]) -> Result<(), BookFault>
     ensures value { λ r. ⌜ r ≡ checked width (now (bytes .entry)) ⌝ }
     ensures says { λ r. ⌜ Cases r (λ _. Sound-keys width (now (bytes .entry))) (λ f. First-fault width (now (bytes .entry)) (f .place) × (Sound-keys width (now (bytes .entry)) → ⊥)) ⌝ }
 {
     shape(width, bytes.len())?;
     match first_high(bytes, 1 << width) {
-        Some(place) => Err(KeyFault { place }),
+        Some(place) => Err(BookFault { place }),
         None => Ok(()),
     }
 }

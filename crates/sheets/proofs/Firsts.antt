@@ -13,7 +13,7 @@ use Rattle.std.specs.Results.{Cases}
 use Rattle.std.specs.declared.result.Result.{Result}
 use Rattle.std.specs.declared.result.Result.the-variants.{Ok, Err}
 use Rattle.sheets.specs.Walk.{Out, then, wordIn, passes, each, part, mostLeft, pairSize, pairWant, listsEnd, ruleEnd, rulesEnd, sheetEnd}
-use Rattle.sheets.specs.declared.fault.BookFault.{BookFault}
+use Rattle.rules.specs.declared.fault.BookFault.{BookFault}
 use Rattle.sheets.specs.declared.want.Want.{Want}
 use Rattle.sheets.specs.declared.want.Want.the-variants.{Entry, Listed, Side}
 

@@ -14,7 +14,7 @@ use Rattle.sheets.specs.Reads.{endOf, ruleAt, rulesAt, startOf, meaningBy, she
 use Rattle.sheets.specs.Facts.{Whole, Wide, Counted, Starts, Found, Tabled, Opened}
 use Rattle.sheets.specs.Wholes.{then-ok, word-ok, whole-from}
 use Rattle.sheets.specs.Wells.{rules-length}
-use Rattle.sheets.specs.declared.fault.BookFault.{BookFault}
+use Rattle.rules.specs.declared.fault.BookFault.{BookFault}
 
 pub rules-nth : (words : List ℕ) (width n at i : ℕ) → i < n → nth (rulesAt words width n at) i ≡ Some (ruleAt words width (startOf words width i at))
 rules-nth words width zero at i h = absurd (omega arith)

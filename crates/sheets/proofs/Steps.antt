@@ -12,7 +12,7 @@ use Rattle.std.specs.declared.result.Result.{Result}
 use Rattle.std.specs.declared.result.Result.the-variants.{Ok, Err}
 use Rattle.sheets.specs.Walk.{has, each, passes, Out}
 use Rattle.sheets.specs.declared.want.Want.{Want}
-use Rattle.sheets.specs.declared.fault.BookFault.{BookFault}
+use Rattle.rules.specs.declared.fault.BookFault.{BookFault}
 
 pub has-here : (rows : List ℕ) (i w : ℕ) → i < length rows → getD rows i 0 ≡ w → has (drop i rows) w ≡ true
 has-here rows i w h e = at-drop-more (λ xs. has xs w) rows i 0 h ∙ rw (eq-eqb (getD rows i 0) w e)

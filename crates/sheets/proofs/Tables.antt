@@ -13,7 +13,7 @@ use Rattle.std.specs.declared.result.Result.the-variants.{Ok, Err}
 use Rattle.sheets.specs.Walk.{Out, ruleEnd, rulesEnd}
 use Rattle.sheets.specs.Reads.{endOf, startOf}
 use Rattle.sheets.specs.Facts.{Starts}
-use Rattle.sheets.specs.declared.fault.BookFault.{BookFault}
+use Rattle.rules.specs.declared.fault.BookFault.{BookFault}
 
 module _ (words : List ℕ) (width : ℕ) where
   pub start-more : (i at : ℕ) → startOf words width (suc i) at ≡ endOf words width (startOf words width i at)

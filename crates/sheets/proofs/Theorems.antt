@@ -20,7 +20,7 @@ use Rattle.sheets.specs.Wells.{sheet-well, rules-length}
 use Rattle.sheets.specs.Laws.{Fitting, Written, Passing, Failing, Read-back, Opens, Written-passes, Passing-is-written, Failing-is-first}
 use Rattle.sheets.proofs.Firsts.{place-inside, place-front, place-always}
 use Rattle.sheets.proofs.Written.{then-pass, word-pass, rule-pass, at-head, Spread, spread, whole-written, read-written}
-use Rattle.sheets.specs.declared.fault.BookFault.{BookFault}
+use Rattle.rules.specs.declared.fault.BookFault.{BookFault}
 
 -- rules that are written down
 rules-written : (words : List ℕ) (width : ℕ) → width ≤ 8 → (rs : List Rule) (at : ℕ) (rest : List ℕ) → drop at words ≡ joined layoutRule rs ++ rest → ((r : Rule) → r ∈ rs → Well-formed width r)

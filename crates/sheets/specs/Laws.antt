@@ -6,7 +6,7 @@ use lib.ListN.{length, take, drop}
 use Rattle.std.specs.declared.result.Result.{Result}
 use Rattle.std.specs.declared.result.Result.the-variants.{Ok, Err}
 use Rattle.rules.specs.Books.{BookMeaning, Well-formed-book}
-use Rattle.sheets.specs.declared.fault.BookFault.{BookFault}
+use Rattle.rules.specs.declared.fault.BookFault.{BookFault}
 use Rattle.sheets.specs.Walk.{Out, sheetEnd}
 use Rattle.sheets.specs.Layout.{layout}
 use Rattle.sheets.specs.Reads.{empty-book, sheetMeaning}

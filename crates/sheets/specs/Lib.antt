@@ -1,4 +1,3 @@
-pub mod Faults
 pub mod Walk
 pub mod Layout
 pub mod Reads

@@ -18,7 +18,7 @@ use Rattle.sheets.specs.Reads.{leftPlace, pairPlace, endOf}
 use Rattle.sheets.specs.Facts.{Whole}
 use Rattle.sheets.specs.declared.want.Want.{Want}
 use Rattle.sheets.specs.declared.want.Want.the-variants.{Entry, Listed, Side}
-use Rattle.sheets.specs.declared.fault.BookFault.{BookFault}
+use Rattle.rules.specs.declared.fault.BookFault.{BookFault}
 
 pub clash : {X : Type 0} (f : BookFault) (x : X) → _≡_ {A = Out X} (Err f) (Ok x) → ⊥
 clash f x e = let z : _≡_ {A = ℕ} 0 1 = cc in omega arith

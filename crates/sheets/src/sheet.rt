@@ -5,7 +5,6 @@ ghost use Rattle.sheets.specs.Reads.{sheetMeaning};
 ghost use Rattle.sheets.specs.Facts.{Wide, Counted, Starts, Found};
 ghost use Rattle.sheets.specs.Laws.{Passing, Failing, Read-back, Opens};
 ghost use Rattle.sheets.specs.Wells.{sheet-well};
-use crate::fault::BookFault;
 use crate::reads::kind_in;
 use crate::reads::left_in;
 use crate::reads::pair_in;
@@ -14,6 +13,7 @@ use crate::reads::term_in;
 use crate::table::opened;
 use crate::table::table;
 use rules::book::Book;
+use rules::fault::BookFault;
 use rules::term::Kind;
 use rules::term::Term;
 

@@ -6,9 +6,9 @@ ghost use Rattle.std.specs.Results.{Cases};
 ghost use Rattle.std.specs.declared.result.Result.the-variants.{Ok, Err};
 ghost use Rattle.sheets.specs.Walk.{rulesEnd, sheetEnd};
 ghost use Rattle.sheets.specs.Facts.{Starts, Tabled, Opened};
-use crate::fault::BookFault;
 use crate::walk::rule;
 use crate::walk::word;
+use rules::fault::BookFault;
 
 #[derive(Clone, Copy)]
 pub(crate) struct Opening {

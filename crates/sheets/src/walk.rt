@@ -5,10 +5,10 @@ ghost use Prim.Native.Nat.{ℕ, _+_, _*_, _<_, _≤_};
 ghost use lib.ListN.{length, getD};
 ghost use Rattle.std.specs.Results.{Cases};
 ghost use Rattle.sheets.specs.Walk.{wordIn, has, passes, each as eachIs, listsEnd, ruleEnd};
-use crate::fault::BookFault;
 use crate::want::BASE;
 use crate::want::LIMIT;
 use crate::want::Want;
+use rules::fault::BookFault;
 
 // The word at a place, in a range.
 pub(crate) fn word(words: &[u32], at: usize, low: u32, high: u32) -> Result<u32, BookFault>

@@ -8,7 +8,7 @@ use lib.Dec.{eqb, leb}
 use Rattle.std.proofs.shelf.Tests.{cases-bool, leb-true, ne-eqb, and-left, and-right, or-from}
 use Rattle.std.specs.declared.result.Result.the-variants.{Ok, Err}
 use Rattle.sheets.specs.Walk.{Out, then, has, passes}
-use Rattle.sheets.specs.declared.fault.BookFault.{BookFault}
+use Rattle.rules.specs.declared.fault.BookFault.{BookFault}
 use Rattle.sheets.specs.declared.want.Want.the-variants.{Listed}
 use Rattle.sheets.proofs.Firsts.{place-always}
 use Rattle.sheets.specs.Worked.{Worked-faults, Front-of-none}

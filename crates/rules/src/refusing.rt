@@ -1,13 +1,13 @@
 // The fault of a book as a refusal.
 ghost use mathlib.Core.Path.{_≡_};
-ghost use Rattle.sheets.specs.Faults.{book-refusal};
+ghost use Rattle.rules.specs.Faults.{bookRefusal};
 use crate::fault::BookFault;
-use rules::refusal::Layer;
-use rules::refusal::Refusal;
+use crate::refusal::Layer;
+use crate::refusal::Refusal;
 
 impl BookFault {
     pub fn refusal(self) -> Refusal
-        ensures { λ r. ⌜ r ≡ book-refusal self ⌝ }
+        ensures { λ r. ⌜ r ≡ bookRefusal self ⌝ }
     {
         Refusal {
             number: 7,

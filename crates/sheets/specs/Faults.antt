@@ -1,7 +1,0 @@
--- The refusal that the fault of a book is.
-use Rattle.rules.specs.declared.refusal.Refusal.{Refusal}
-use Rattle.rules.specs.declared.refusal.Layer.the-variants.{Book}
-use Rattle.sheets.specs.declared.fault.BookFault.{BookFault}
-
-abbrev pub book-refusal : BookFault → Refusal
-book-refusal f = record { number = 7; layer = Book; place = f .place }
