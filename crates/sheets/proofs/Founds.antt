@@ -10,8 +10,8 @@ use Rattle.std.specs.declared.option.Option.the-variants.{Some, None}
 use Rattle.std.specs.declared.result.Result.{Result}
 use Rattle.std.specs.declared.result.Result.the-variants.{Ok, Err}
 use Rattle.sheets.specs.Walk.{Out, ruleEnd, rulesEnd, sheetEnd}
-use Rattle.sheets.specs.Reads.{endOf, ruleAt, rulesAt, startOf, meaningBy, sheetMeaning}
-use Rattle.sheets.specs.Facts.{Whole, Wide, Counted, Starts, Found, Tabled, Opened}
+use Rattle.sheets.specs.Reads.{endOf, ruleAt, rulesAt, meaningBy, sheetMeaning}
+use Rattle.sheets.specs.Facts.{startOf, Whole, Wide, Counted, Starts, Found, Tabled, Opened}
 use Rattle.sheets.specs.Wholes.{then-ok, word-ok, whole-from}
 use Rattle.sheets.specs.Wells.{rules-length}
 use Rattle.rules.specs.declared.fault.BookFault.{BookFault}

@@ -11,8 +11,8 @@ use Rattle.std.proofs.shelf.Tests.{cases-order}
 use Rattle.std.specs.declared.result.Result.{Result}
 use Rattle.std.specs.declared.result.Result.the-variants.{Ok, Err}
 use Rattle.sheets.specs.Walk.{Out, ruleEnd, rulesEnd}
-use Rattle.sheets.specs.Reads.{endOf, startOf}
-use Rattle.sheets.specs.Facts.{Starts}
+use Rattle.sheets.specs.Reads.{endOf}
+use Rattle.sheets.specs.Facts.{startOf, Starts}
 use Rattle.rules.specs.declared.fault.BookFault.{BookFault}
 
 module _ (words : List ℕ) (width : ℕ) where

@@ -3,7 +3,7 @@
 use mathlib.Core.Path.{_≡_}
 use mathlib.Core.List.{List}
 use mathlib.Core.Bool.{true}
-use Prim.Native.Nat.{ℕ, _+_, _*_, _<_, _≤_}
+use Prim.Native.Nat.{ℕ, zero, suc, _+_, _*_, _<_, _≤_}
 use lib.ListN.{length, getD}
 use Rattle.std.specs.declared.result.Result.the-variants.{Ok}
 use Rattle.std.specs.shelf.Maps.{nth}
@@ -11,7 +11,7 @@ use Rattle.std.specs.declared.option.Option.{Option}
 use Rattle.std.specs.declared.option.Option.the-variants.{Some, None}
 use Rattle.rules.specs.Books.{base}
 use Rattle.sheets.specs.Walk.{limit, passes, part, mostLeft, pairSize, pairWant, sheetEnd}
-use Rattle.sheets.specs.Reads.{leftPlace, pairPlace, endOf, ruleAt, startOf, sheetMeaning}
+use Rattle.sheets.specs.Reads.{leftPlace, pairPlace, endOf, ruleAt, sheetMeaning}
 use Rattle.sheets.specs.declared.want.Want.the-variants.{Listed}
 
 -- the rule that begins at a place lies within the words, and each of its words is what is wanted there
@@ -34,7 +34,11 @@ pub record Whole (words : List ℕ) (width at : ℕ) : Type 0 where
   pub sides : (p : ℕ) → pairPlace words width at + 1 ≤ p → p < endOf words width at → passes (pairWant (getD words at 0)) (part words (at + 2) (leftPlace words width at)) (getD words p 0) ≡ true
   pub sides-below : (p : ℕ) → pairPlace words width at + 1 ≤ p → p < endOf words width at → getD words p 0 < limit
 
--- where each rule begins
+-- where the rule with a number begins, if the first begins at a place; and that so each of so many does
+abbrev pub startOf : List ℕ → ℕ → ℕ → ℕ → ℕ
+startOf words width zero at = at
+startOf words width (suc i) at = startOf words width i (endOf words width at)
+
 abbrev pub Starts : List ℕ → ℕ → ℕ → List ℕ → Type 0
 Starts words width count starts = (i : ℕ) → i < count → getD starts i 0 ≡ startOf words width i 2
 

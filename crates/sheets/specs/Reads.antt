@@ -56,14 +56,10 @@ ruleAt words width at = record {
   pairs = slots (pairIn (kindOf (getD words at 0)) words) (pairSize (getD words at 0)) (getD words (pairPlace words width at) 0) (pairPlace words width at + 1);
 }
 
--- n rules, the first at a place; and where the one with a number begins
+-- n rules, the first at a place
 abbrev pub rulesAt : List ℕ → ℕ → ℕ → ℕ → List Rule
 rulesAt words width zero at = []
 rulesAt words width (suc n) at = ruleAt words width at ∷ rulesAt words width n (endOf words width at)
-
-abbrev pub startOf : List ℕ → ℕ → ℕ → ℕ → ℕ
-startOf words width zero at = at
-startOf words width (suc i) at = startOf words width i (endOf words width at)
 
 -- what a sheet means that fails the check
 abbrev pub empty-book : BookMeaning

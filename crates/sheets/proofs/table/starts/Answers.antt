@@ -5,7 +5,8 @@ use native.Mathlib.Numerals.{add-one}
 use borrow.Author.Needs.{needs}
 use lib.ListN.{length, length-set}
 use Rattle.std.proofs.shelf.Results.{err-from-errBy}
-use Rattle.sheets.specs.Reads.{startOf, endOf}
+use Rattle.sheets.specs.Facts.{startOf}
+use Rattle.sheets.specs.Reads.{endOf}
 use Rattle.sheets.specs.Wholes.{whole-from}
 use Rattle.sheets.proofs.Tables.{start-more, rules-next, rules-wrong, starts-more}
 use Rattle.sheets.proofs.table.starts.Needs as need

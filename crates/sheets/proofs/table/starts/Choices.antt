@@ -2,8 +2,7 @@ use mathlib.Core.Path.{_≡_}
 use Prim.Native.Nat.{_-_, _≤_}
 use lib.ListN.{length}
 use Rattle.sheets.specs.Walk.{rulesEnd}
-use Rattle.sheets.specs.Reads.{startOf}
-use Rattle.sheets.specs.Facts.{Starts}
+use Rattle.sheets.specs.Facts.{startOf, Starts}
 use Rattle.sheets.proofs.table.starts.Given as given
 
 abbrev pub Inv-loop-i : given.InvT-loop-i
