@@ -10,7 +10,7 @@ use Rattle.std.specs.declared.result.Result.the-variants.{Ok, Err}
 use Rattle.rules.specs.declared.refusal.Layer.the-variants.{Book}
 use Rattle.rules.specs.declared.refusal.Refusal.{Refusal}
 use Rattle.keys.specs.declared.fault.KeyFault.{KeyFault}
-use Rattle.keys.specs.Keys.{Has-bit, Narrow}
+use Rattle.keys.specs.Keys.{Has-bit, Narrow, Sound-keys}
 
 abbrev pub refusalOf : KeyFault → Refusal
 refusalOf f = record { number = 7; layer = Book; place = f .place }
@@ -54,3 +54,8 @@ pub data First-fault (width : ℕ) (bytes : List ℕ) (place : ℕ) : Type 0 whe
   of-pairing : Narrow width → length bytes ≤ 512 → length bytes % 2 ≡ 1 → place ≡ length bytes → First-fault width bytes place
   of-byte : Narrow width → length bytes ≤ 512 → length bytes % 2 ≡ 0 → place < length bytes →
       High width (getD bytes place 0) → ((i : ℕ) → i < place → High width (getD bytes i 0) → ⊥) → First-fault width bytes place
+
+-- what the check's answer tells of a key list: it is sound, or the place is that of its first fault
+abbrev pub Says : ℕ → List ℕ → Checked → Type 0
+Says width bytes (Ok u) = Sound-keys width bytes
+Says width bytes (Err f) = First-fault width bytes (f .place) × (Sound-keys width bytes → ⊥)
