@@ -1,12 +1,27 @@
-// The check of a key list.
+// The check of a key list, and what it tells.
 ghost use mathlib.Core.Path.{_≡_};
 ghost use Prim.Native.Nat.{_<_, _≤_};
 ghost use lib.ListN.{length, getD};
 ghost use Rattle.std.specs.Options.{Cases as BySome};
 ghost use Rattle.std.specs.Results.{Cases};
 ghost use Rattle.keys.specs.Keys.{All-below, Shaped};
-ghost use Rattle.keys.specs.Faults.{Says, checked, shaped};
+ghost use Rattle.keys.specs.Faults.{Says, checked, refusalOf, shaped};
 use crate::fault::KeyFault;
+use rules::refusal::Layer;
+use rules::refusal::Refusal;
+
+impl KeyFault {
+    // The fault as every layer tells it.
+    pub fn refusal(self) -> Refusal
+        ensures { λ r. ⌜ r ≡ refusalOf self ⌝ }
+    {
+        Refusal {
+            number: 7,
+            layer: Layer::Book,
+            place: self.place,
+        }
+    }
+}
 
 // Checks the width and the number of bytes.
 fn shape(width: usize, count: usize) -> Result<(), KeyFault>
