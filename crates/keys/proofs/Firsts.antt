@@ -3,7 +3,7 @@ use mathlib.Core.Path.{_≡_, refl, sym, ap, subst, _∙_}
 use mathlib.Core.Bool.{Bool, true, false, cond, _||_}
 use mathlib.Core.Logic.{_⊎_, inl, inr, ⊎-elim}
 use mathlib.Core.List.{List, [], _∷_}
-use Prim.Native.Nat.{ℕ, zero, suc, _+_, _*_, _/_, _%_, _^_, _≤_, _<_}
+use Prim.Native.Nat.{ℕ, zero, suc, _+_, _/_, _%_, _^_, _≤_, _<_}
 use native.Mathlib.Omega.{arith}
 use native.Mathlib.Nat.{div-eq-of-lt, two-pow-succ}
 use borrow.Author.Tests.{ltb-true, ltb-false, eqb-true, eqb-false}
@@ -15,9 +15,8 @@ use Rattle.std.specs.Results.{Cases}
 use Rattle.std.specs.declared.result.Result.the-variants.{Ok, Err}
 use Rattle.std.proofs.shelf.Bits.{le-div, div-below}
 use Rattle.std.proofs.shelf.Ways.{leb-tells}
-use Rattle.rules.specs.declared.fault.BookFault.{BookFault}
 use Rattle.keys.specs.Keys.{Narrow, All-below, Sound-keys}
-use Rattle.keys.specs.Faults.{Checked, High, First-fault, of-width, of-number, of-pairing, of-byte, faultAt, lowFrom, andThen, checked}
+use Rattle.keys.specs.Faults.{Checked, High, First-fault, of-width, of-number, of-pairing, of-byte, faultAt, lowFrom, andThen, checked, Says}
 use Rattle.keys.specs.Laws.{Faults}
 
 -- a byte has a bit at or above the width exactly when it is not below its power
@@ -84,9 +83,6 @@ not-both width bytes place (of-number n l e) s = let f = s .few in omega arith
 not-both width bytes place (of-pairing n l o e) s = let p = s .paired in omega arith
 not-both width bytes place (of-byte n l o i h b) s = low-none width (getD bytes place 0) (s .low place i) h
 
-abbrev Says : ℕ → List ℕ → Checked → Type 0
-Says width bytes r = Cases r (λ _. Sound-keys width bytes) (λ f. First-fault width bytes (f .place) × (Sound-keys width bytes → ⊥))
-
 fault : (width : ℕ) (bytes : List ℕ) (place : ℕ) → First-fault width bytes place → First-fault width bytes place × (Sound-keys width bytes → ⊥)
 fault width bytes place h = (h, not-both width bytes place h)
 
@@ -113,7 +109,7 @@ width-says width bytes false false e f = number-says width bytes (ltb 512 (lengt
 checked-says : (width : ℕ) (bytes : List ℕ) → Says width bytes (checked width bytes)
 checked-says width bytes = width-says width bytes (ltb width 1) (ltb 8 width) refl refl
 
-pub says : (width : ℕ) (bytes : List ℕ) (r : Checked) → r ≡ checked width bytes → Cases r (λ _. Sound-keys width bytes) (λ f. First-fault width bytes (f .place) × (Sound-keys width bytes → ⊥))
+pub says : (width : ℕ) (bytes : List ℕ) (r : Checked) → r ≡ checked width bytes → Says width bytes r
 says width bytes r e = subst (Says width bytes) (sym e) (checked-says width bytes)
 
 -- the first fault is one

@@ -2,20 +2,18 @@
 use mathlib.Core.Path.{_≡_, refl, sym, ap, subst, _∙_}
 use mathlib.Core.List.{List, [], _∷_, map, List·Memᴰ·head, List·Memᴰ·eq-of-singleton, Memᴰ·cast, Memᴰ·map, Memᴰ·of-map}
 use mathlib.Core.Logic.{_↔_}
-use Prim.Native.Nat.{ℕ, zero, suc, _+_, _*_, _/_, _%_, _≤_, _<_}
+use Prim.Native.Nat.{ℕ, zero, suc, _+_, _*_, _<_}
 use native.Mathlib.Omega.{arith}
-use lib.ListN.{length, getD}
+use lib.ListN.{getD}
 use Rattle.std.specs.Iters.{counting}
 use Rattle.std.specs.shelf.Maps.{nth}
-use Rattle.std.specs.declared.option.Option.{Option}
-use Rattle.std.specs.declared.option.Option.the-variants.{Some, None}
+use Rattle.std.specs.declared.option.Option.the-variants.{Some}
 use Rattle.std.proofs.shelf.Counted.{fill-by-all, getD-map-counting}
 use Rattle.rules.specs.declared.term.Term.{Term}
 use Rattle.rules.specs.declared.term.Term.the-variants.{Variable}
-use Rattle.rules.specs.Rules.{_∈_, Relation, Of-width, Valuation, at, Places, Rule, Compares, Keeps}
-use Rattle.rules.specs.Books.{BookMeaning}
-use Rattle.keys.specs.Keys.{Has-bit, Sound-keys, columns, variables, twice, keyRule, keyRules, keysMeaning}
-use Rattle.keys.specs.Laws.{Agree-in, Depends, Dependencies, Opens}
+use Rattle.rules.specs.Rules.{_∈_, Relation, Of-width, Valuation, at, Places, Rule, Keeps}
+use Rattle.keys.specs.Keys.{Sound-keys, columns, variables, twice, keyRule, keyRules}
+use Rattle.keys.specs.Laws.{Depends, Dependencies}
 use Rattle.keys.specs.Wells.{column-in, in-column}
 use Rattle.keys.proofs.Steps.{rules-length}
 
@@ -69,7 +67,3 @@ dependencies width bytes s = record {
       let P : Rule → Type 0 = λ r. Keeps rel r ↔ Depends width (getD bytes (i * 2) 0) (getD bytes (i * 2 + 1) 0) rel in
       subst P (rule-is width bytes i rule e) (keeps-depends width (getD bytes (i * 2) 0) (getD bytes (i * 2 + 1) 0) rel wide);
 }
-
--- what a key list opens as
-pub opens-sound : (width : ℕ) (bytes : List ℕ) → Sound-keys width bytes → Opens width bytes (keysMeaning width bytes)
-opens-sound width bytes s = record { as-written = λ _. refl; as-dependencies = dependencies width bytes; as-empty = λ n. absurd (n s) }

@@ -17,7 +17,6 @@ use Rattle.std.proofs.shelf.Counted.{length-map-counting, getD-map-counting}
 use Rattle.std.proofs.shelf.Maps.{nth-getD, nth-past}
 use Rattle.rules.specs.Rules.{Rule}
 use Rattle.rules.specs.Books.{within, termAt, pairAt}
-use Rattle.rules.specs.declared.term.Term.{Term}
 use Rattle.rules.specs.declared.term.Term.the-variants.{Variable}
 use Rattle.keys.specs.Keys.{hasBit, columns, variables, twice, keyRule, keyRules, All-below}
 use Rattle.rules.specs.declared.fault.BookFault.{BookFault}

@@ -8,7 +8,7 @@ use lib.ListN.{length, getD}
 use Rattle.std.specs.declared.result.Result.{Result}
 use Rattle.std.specs.declared.result.Result.the-variants.{Ok, Err}
 use Rattle.rules.specs.declared.fault.BookFault.{BookFault}
-use Rattle.keys.specs.Keys.{Has-bit, Narrow}
+use Rattle.keys.specs.Keys.{Has-bit, Narrow, Sound-keys}
 
 abbrev pub Checked : Type 0
 Checked = Result (Unit {0}) BookFault
@@ -49,3 +49,8 @@ pub data First-fault (width : ℕ) (bytes : List ℕ) (place : ℕ) : Type 0 whe
   of-pairing : Narrow width → length bytes ≤ 512 → length bytes % 2 ≡ 1 → place ≡ length bytes → First-fault width bytes place
   of-byte : Narrow width → length bytes ≤ 512 → length bytes % 2 ≡ 0 → place < length bytes →
       High width (getD bytes place 0) → ((i : ℕ) → i < place → High width (getD bytes i 0) → ⊥) → First-fault width bytes place
+
+-- what the check's answer tells of a key list: it is sound, or the place is that of its first fault
+abbrev pub Says : ℕ → List ℕ → Checked → Type 0
+Says width bytes (Ok u) = Sound-keys width bytes
+Says width bytes (Err f) = First-fault width bytes (f .place) × (Sound-keys width bytes → ⊥)

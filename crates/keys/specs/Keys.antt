@@ -41,7 +41,7 @@ keyRule width left right = record {
   pairs = map twice (columns width right);
 }
 
--- a rule for each pair of bytes, in their order
+-- a rule for each pair of bytes, in their order; a last byte without its other has none
 abbrev pub keyRules : ℕ → List ℕ → List Rule
 keyRules width [] = []
 keyRules width (left ∷ []) = []
@@ -54,6 +54,7 @@ keysMeaning width bytes = record { width = width; rules = keyRules width bytes }
 abbrev pub All-below : ℕ → List ℕ → ℕ → Type 0
 All-below limit bytes n = (i : ℕ) → i < n → getD bytes i 0 < limit
 
+-- a width that a book may have
 abbrev pub Narrow : ℕ → Type 0
 Narrow width = (1 ≤ width) × (width ≤ 8)
 

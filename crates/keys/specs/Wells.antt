@@ -2,8 +2,8 @@
 use mathlib.Core.Path.{_≡_, refl, sym, ap, subst, _∙_}
 use mathlib.Core.Bool.{Bool, true, false, cond}
 use mathlib.Core.Logic.{_⊎_, inl, inr, ⊎-elim}
-use mathlib.Core.List.{List, [], _∷_, map, List·Memᴰ, List·Memᴰ·head, List·Memᴰ·tail, List·Memᴰ·cases-cons, List·Memᴰ·not-nil, List·Memᴰ·eq-of-singleton, Memᴰ·map, Memᴰ·of-map}
-use Prim.Native.Nat.{ℕ, zero, suc, _+_, _*_, _<_, _≤_}
+use mathlib.Core.List.{List, [], _∷_, map, List·Memᴰ·head, List·Memᴰ·tail, List·Memᴰ·cases-cons, List·Memᴰ·not-nil, List·Memᴰ·eq-of-singleton, Memᴰ·map, Memᴰ·of-map}
+use Prim.Native.Nat.{ℕ, zero, suc, _+_, _<_, _≤_}
 use native.Mathlib.Omega.{arith}
 use borrow.Author.Tests.{eqb-true, eq-eqb}
 use lib.ListN.{length}
@@ -29,10 +29,7 @@ module _ {X : Type 0} (test : X → Bool) where
   in-keep-by : (x y : X) (ys : List X) (b : Bool) → b ≡ test y → test x ≡ true → (x ≡ y) ⊎ (x ∈ kept-by test ys) → x ∈ cond b (y ∷ kept-by test ys) (kept-by test ys)
   in-keep-by x y ys true e t (inl h) = List·Memᴰ·head h
   in-keep-by x y ys true e t (inr m) = List·Memᴰ·tail m
-  in-keep-by x y ys false e t (inl h) = let z : _≡_ {A = Bool} false true = e ∙ sym (ap test h) ∙ t in absurd (elim-clash z)
-    where
-      elim-clash : _≡_ {A = Bool} false true → ⊥
-      elim-clash z = let n : _≡_ {A = ℕ} 0 1 = cc in omega arith
+  in-keep-by x y ys false e t (inl h) = let same = ap test h in let z : _≡_ {A = ℕ} 0 1 = cc in absurd (omega arith)
   in-keep-by x y ys false e t (inr m) = m
 
   pub in-keep : (x : X) (xs : List X) → x ∈ xs → test x ≡ true → x ∈ kept-by test xs

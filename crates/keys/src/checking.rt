@@ -4,8 +4,8 @@ ghost use Prim.Native.Nat.{_<_, _≤_};
 ghost use lib.ListN.{length, getD};
 ghost use Rattle.std.specs.Options.{Cases as BySome};
 ghost use Rattle.std.specs.Results.{Cases};
-ghost use Rattle.keys.specs.Keys.{All-below, Shaped, Sound-keys};
-ghost use Rattle.keys.specs.Faults.{First-fault, checked, shaped};
+ghost use Rattle.keys.specs.Keys.{All-below, Shaped};
+ghost use Rattle.keys.specs.Faults.{Says, checked, shaped};
 use rules::fault::BookFault;
 
 // Checks the width and the number of bytes.
@@ -40,7 +40,7 @@ fn first_high(bytes: &[u8], limit: u16) -> Option<usize>
 // Checks a key list, and tells the place of its first fault.
 pub fn check(width: usize, bytes: &[u8]) -> Result<(), BookFault>
     ensures value { λ r. ⌜ r ≡ checked width (now (bytes .entry)) ⌝ }
-    ensures says { λ r. ⌜ Cases r (λ _. Sound-keys width (now (bytes .entry))) (λ f. First-fault width (now (bytes .entry)) (f .place) × (Sound-keys width (now (bytes .entry)) → ⊥)) ⌝ }
+    ensures says { λ r. ⌜ Says width (now (bytes .entry)) r ⌝ }
 {
     shape(width, bytes.len())?;
     match first_high(bytes, 1 << width) {

@@ -37,6 +37,7 @@ impl<'a> KeyList<'a> {
     pub fn open(width: usize, bytes: &'a [u8]) -> KeyList<'a>
         ensures { λ r. ⌜ Opens width (now (bytes .entry)) (keysMeaning (r .width) (now (r .bytes))) ⌝ }
     {
+        // This does nothing: it brings the law that the contract cites.
         keys_are_dependencies();
         match check(width, bytes) {
             Ok(()) => {

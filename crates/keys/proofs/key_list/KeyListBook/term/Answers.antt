@@ -1,4 +1,4 @@
-use mathlib.Core.Path.{_≡_, sym}
+use mathlib.Core.Path.{sym}
 use Rattle.keys.specs.Keys.{keyRules}
 use Rattle.keys.proofs.Steps.{term-here, term-past, row-past}
 use Rattle.keys.proofs.key_list.KeyListBook.term.Needs as need
