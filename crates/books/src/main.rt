@@ -1,6 +1,5 @@
 // Joins a sheet and a key list, and lists the book that they make.
 mod input;
-mod listing;
 
 use input::key_list;
 use input::sheet_words;
@@ -9,10 +8,11 @@ use joins::joined::JoinedBook;
 use joins::joined::check_join;
 use keys::key_list::KeyList;
 use keys::key_list::KeyListBook;
-use listing::print_book;
-use listing::print_refusal;
+use listing::listing::list_book;
 use rules::book::Book;
 use rules::book::LentBook;
+use rules::refusal::Layer;
+use rules::refusal::Refusal;
 use sheets::sheet::Sheet;
 use sheets::sheet::SheetBook;
 use std::error::AnyError;
@@ -43,7 +43,7 @@ fn list(rt: &LibcRuntime, first: &str, second: &str) -> Result<(), AnyError> {
     }
     let sheet = Sheet::open(words);
     if second.trim().is_empty() {
-        print_book(rt, &sheet)?;
+        rt.print(list_book(rt.alloc(), &sheet)?)?;
         return print_sum(rt, sheet.width(), sheet.count(), None);
     }
     let (width, bytes) = key_list(rt.alloc(), second)?;
@@ -55,13 +55,11 @@ fn list(rt: &LibcRuntime, first: &str, second: &str) -> Result<(), AnyError> {
     if let Err(fault) = check_join(&sheet, &keys) {
         return print_refusal(rt, fault.refusal());
     }
-    print_book(
-        rt,
-        &Joined {
-            first: &sheet,
-            second: &keys,
-        },
-    )?;
+    let joined = Joined {
+        first: &sheet,
+        second: &keys,
+    };
+    rt.print(list_book(rt.alloc(), &joined)?)?;
     print_sum(rt, sheet.width(), sheet.count(), Some(keys.count()))
 }
 
@@ -77,5 +75,16 @@ fn print_sum(
         print!(rt, ", {n} from the key list")?;
     }
     println!(rt, "")?;
+    Ok(())
+}
+
+fn print_refusal(rt: &LibcRuntime, refusal: Refusal) -> Result<(), AnyError> {
+    let number = refusal.number;
+    let place = refusal.place;
+    let layer = match refusal.layer {
+        Layer::Book => "book",
+        Layer::Join => "join",
+    };
+    println!(rt, "refused {number} {layer} {place}")?;
     Ok(())
 }
