@@ -15,9 +15,9 @@ use Rattle.law.specs.declared.outcome.Verdict.{Verdict}
 use Rattle.law.specs.declared.outcome.Verdict.the-variants.{Void, Follows, Fails}
 use Rattle.law.specs.Implied.{Implied, Counterexample}
 use Rattle.law.specs.Groups.{Entry, Forced, State, current, Read-alike}
-use Rattle.law.specs.Runs.{At-rest, Merges, Reached}
-use Rattle.law.specs.Calls.{Started, View, Blank, Going, moved, Finished, Finishes, never-begun, finish-width, clashed-before, ends-clashing, ends-following, ends-failing, rows-of, finished-rows}
-use Rattle.law.specs.Promise.{Turn, Ending, Unfinished, Ended, last-view, Answered-last, seen, target-of, Once-finished, Promise, Given-last, History}
+use Rattle.law.specs.Runs.{At-rest, Merges, Reached, Ended, clash-met, pairs-met, pairs-apart}
+use Rattle.law.specs.Calls.{Started, View, Blank, Going, moved, Finished, Finishes, never-begun, finish-width, clashed-before, ended, rows-of, finished-rows}
+use Rattle.law.specs.Promise.{Turn, Ending, Unfinished, Finished-by, last-view, Answered-last, seen, target-of, Once-finished, Promise, Given-last, History}
 use Rattle.law.specs.Laws.{Promise-kept}
 use Rattle.law.proofs.Sound.{Impossible, Sound, forced, clash-impossible}
 use Rattle.law.proofs.Lawful.{merges-lawful}
@@ -25,12 +25,12 @@ use Rattle.law.proofs.Verdicts.{no-counterexample, reached-implied, impossible
 use Rattle.law.proofs.Histories.{true-false, Good, Sane, good-fit, good-moved, history-good, history-sane}
 
 -- what a finished trial tells of its target
-record Told (b : BookMeaning) (t : Rule) (f : Finished) : Type 0 where
-  not-void : f .verdict ≡ Void → ⊥
-  follows : (f .verdict ≡ Follows) ↔ Implied b t
-  fails : (f .verdict ≡ Fails) ↔ ((rel : Relation) × Counterexample b t rel)
-  rows : f .verdict ≡ Fails → Counterexample b t (finished-rows f)
-  alike : f .verdict ≡ Fails → (e e′ : Term) → Entry (doubled-rows t) e → Entry (doubled-rows t) e′ →
+pub record Told (b : BookMeaning) (t : Rule) (f : Finished) : Type 0 where
+  pub not-void : f .verdict ≡ Void → ⊥
+  pub follows : (f .verdict ≡ Follows) ↔ Implied b t
+  pub fails : (f .verdict ≡ Fails) ↔ ((rel : Relation) × Counterexample b t rel)
+  pub rows : f .verdict ≡ Fails → Counterexample b t (finished-rows f)
+  pub alike : f .verdict ≡ Fails → (e e′ : Term) → Entry (doubled-rows t) e → Entry (doubled-rows t) e′ →
       Read-alike (doubled-rows t) (finished-rows f) e e′ ↔ Forced b (doubled-rows t) e e′
 
 follows-void : Follows ≡ Void → ⊥
@@ -64,10 +64,10 @@ told-fails b t x broken alike =
       alike = λ e. alike;
     }
 
--- what is known at the end: a blank trial is void, and a started one tells of its target
-data Known-end (b : BookMeaning) (o : Option Rule) : Finished → Type 0 where
+-- what is known at the end: a blank trial is void, and a started one has clashed or rests, and tells of its target
+pub data Known-end (b : BookMeaning) (o : Option Rule) : Finished → Type 0 where
   at-blank : o ≡ None → Known-end b o (record { verdict = Void; left = Blank })
-  at-told : {x : Started} {v : Verdict} → (g : Good b o x) → Told b (g .target) (record { verdict = v; left = Going x }) →
+  at-told : {x : Started} {v : Verdict} → (g : Good b o x) → (x .clashed ≡ false → At-rest (b .rules) (x .rows) (x .shows)) → Told b (g .target) (record { verdict = v; left = Going x }) →
       Known-end b o (record { verdict = v; left = Going x })
 
 module _ (b : BookMeaning) (book-fits : Well-formed-book b) (o : Option Rule) where
@@ -98,37 +98,41 @@ module _ (b : BookMeaning) (book-fits : Well-formed-book b) (o : Option Rule) wh
       subst (λ (p : Pattern). Read-alike (doubled-rows t) (current p (x .shows)) e e′ ↔ Forced b (doubled-rows t) e e′) (sym (g .rows-are))
       (rest-alike b book-fits t (g .fits) (x .shows) (sound-of x g) rest′ e e′ k k′))
 
-  known-end : {x : View} {f : Finished} → Finishes b x f → Sane b o x → Known-end b o f
-  known-end never-begun sane = at-blank sane
-  known-end (finish-width d) sane = absurd (d (sane .width-is))
-  known-end (clashed-before {x = x} w c) sane = at-told sane (clash-told x sane c)
-  known-end (ends-clashing {x = x} {s = s} {m = m} w c merges clash) sane =
+  ended-end : (x : Started) → Good b o x → (s : State) (m : ℕ) → Merges (b .rules) (x .rows) (x .shows) s m → {c : Bool} {v : Verdict} →
+      Ended (b .rules) (x .rows) (x .pairs) s c v → Known-end b o (record { verdict = v; left = Going (moved x s m c) })
+  ended-end x sane s m merges (clash-met clash) =
       let fit = good-fit b book-fits o x sane in
       let after = merges-lawful b (x .rows) fit (x .shows) (x .merges) (sane .lawful) merges in
       let g = good-moved b book-fits o x sane s m merges true (λ e. clash-impossible b (x .rows) fit s (after .sound) clash) in
-      at-told g (clash-told (moved x s m true) g refl)
-  known-end (ends-following {x = x} {s = s} {m = m} w c merges rest reached) sane =
+      at-told g (λ e. absurd (true-false (sym e))) (clash-told (moved x s m true) g refl)
+  ended-end x sane s m merges (pairs-met rest reached) =
       let g = good-moved b book-fits o x sane s m merges false (λ e. absurd (true-false e)) in
-      at-told g (reached-told (moved x s m false) g reached)
-  known-end (ends-failing {x = x} {s = s} {m = m} w c merges rest unreached) sane =
+      at-told g (λ e. rest) (reached-told (moved x s m false) g reached)
+  ended-end x sane s m merges (pairs-apart rest apart) =
       let g = good-moved b book-fits o x sane s m merges false (λ e. absurd (true-false e)) in
-      at-told g (failed-told (moved x s m false) g rest unreached)
+      at-told g (λ e. rest) (failed-told (moved x s m false) g rest apart)
+
+  pub known-end : {x : View} {f : Finished} → Finishes b x f → Sane b o x → Known-end b o f
+  known-end never-begun sane = at-blank sane
+  known-end (finish-width d) sane = absurd (d (sane .width-is))
+  known-end (clashed-before {x = x} w c) sane = at-told sane (λ e. absurd (true-false (sym e ∙ c))) (clash-told x sane c)
+  known-end (ended {x = x} {s = s} {m = m} w c merges end) sane = ended-end x sane s m merges end
 
   -- the view that finish left is good too
   left-good : {f : Finished} → Known-end b o f → (z : Started) → Going z ≡ f .left → Good b o z
   left-good (at-blank e) z k = let n : _≡_ {A = ℕ} 0 1 = cc in absurd (omega arith)
-  left-good (at-told {x = x} g told) z k = let same : x ≡ z = cc in subst (Good b o) same g
+  left-good (at-told {x = x} g rest told) z k = let same : x ≡ z = cc in subst (Good b o) same g
 
   void-end : {f : Finished} → Known-end b o f → (f .verdict ≡ Void) ↔ (o ≡ None)
   void-end (at-blank e) = (λ k. e, λ k. refl)
-  void-end (at-told g told) = (λ k. absurd (told .not-void k), λ k. absurd (some-none (g .target) (sym (g .is-target) ∙ k)))
+  void-end (at-told g rest told) = (λ k. absurd (told .not-void k), λ k. absurd (some-none (g .target) (sym (g .is-target) ∙ k)))
     where
       some-none : (t : Rule) → Some t ≡ None → ⊥
       some-none t e = let z : _≡_ {A = ℕ} 0 1 = cc in omega arith
 
-  told-end : {f : Finished} → Known-end b o f → (t : Rule) → o ≡ Some t → Told b t f
+  pub told-end : {f : Finished} → Known-end b o f → (t : Rule) → o ≡ Some t → Told b t f
   told-end (at-blank e) t k = let z : _≡_ {A = ℕ} 0 1 = cc in absurd (omega arith)
-  told-end (at-told {x = x} {v = v} g told) t k =
+  told-end (at-told {x = x} {v = v} g rest told) t k =
       subst (λ (r : Rule). Told b r (record { verdict = v; left = Going x })) (one (g .target) t (sym (g .is-target) ∙ k)) told
     where
       one : (r r′ : Rule) → Some r ≡ Some r′ → r ≡ r′
@@ -151,7 +155,7 @@ module _ (b : BookMeaning) (book-fits : Well-formed-book b) (turns : List Turn) 
         rows-keep-and-break = tt;
         alike-exactly-if-forced = tt;
       }
-  promised (Ended c f) last good end =
+  promised (Finished-by c f) last good end =
       let told = told-end b book-fits (target-of turns) end in
       record {
         answered = (h .answered, last);
@@ -167,7 +171,7 @@ module _ (b : BookMeaning) (book-fits : Well-formed-book b) (turns : List Turn) 
 
   kept-to : (ending : Ending) → Given-last b ending → Answered-last (last-view Blank views) ending → Promise b turns views ending
   kept-to Unfinished given last = promised Unfinished last (history-good b book-fits turns views h) tt
-  kept-to (Ended c f) given last = promised (Ended c f) last (λ z m. go z (List·Memᴰ·append-cases views m)) end
+  kept-to (Finished-by c f) given last = promised (Finished-by c f) last (λ z m. go z (List·Memᴰ·append-cases views m)) end
     where
       end : Known-end b (target-of turns) f
       end =

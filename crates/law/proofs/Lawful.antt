@@ -1,5 +1,5 @@
 -- What is so in every state that merges lead to.
-use mathlib.Core.Path.{_≡_, refl, sym, ap, _∙_, subst, fun-ext}
+use mathlib.Core.Path.{_≡_, refl, sym, ap, _∙_, subst}
 use mathlib.Core.List.{List}
 use Prim.Native.Nat.{ℕ, suc, _+_, _≤_}
 use native.Mathlib.Omega.{arith}
@@ -17,9 +17,9 @@ pub record Lawful (b : BookMeaning) (start : Pattern) (s : State) (n : ℕ) : Ty
   pub shape : Shape start s
   pub counted : n + group-count start s ≡ symbol-count start
 
-pub alone-lawful : (b : BookMeaning) (start : Pattern) (s : State) → Alone s → Lawful b start s 0
+pub alone-lawful : (b : BookMeaning) (start : Pattern) (s : State) → Alone start s → Lawful b start s 0
 alone-lawful b start s alone =
-    record { sound = alone-sound b start s alone; shape = alone-shape start s alone; counted = let e = alone-counts s alone start in omega arith }
+    record { sound = alone-sound b start s alone; shape = alone-shape start s alone; counted = let e = alone-counts s start alone in omega arith }
 
 module _ (b : BookMeaning) (start : Pattern) (fit : Fit b start) where
   pub merge-lawful : (s s′ : State) (n : ℕ) → Merge (b .rules) start s s′ → Lawful b start s n → Lawful b start s′ (suc n)
@@ -29,9 +29,9 @@ module _ (b : BookMeaning) (start : Pattern) (fit : Fit b start) where
       record { sound = merge-sound b start fit s s′ m (l .sound); shape = merge-shape b start fit s s′ m (l .shape); counted = omega arith }
 
   pub merges-lawful : (s : State) (n : ℕ) → Lawful b start s n → {s′ : State} {m : ℕ} → Merges (b .rules) start s s′ m → Lawful b start s′ (n + m)
-  merges-lawful s n l {s′} (none e) =
+  merges-lawful s n l none =
       let k : n ≡ n + 0 = omega arith in
-      subst (λ (i : ℕ). Lawful b start s′ i) k (subst (λ (z : State). Lawful b start z n) (fun-ext (λ v. sym (e v))) l)
+      subst (λ (i : ℕ). Lawful b start s i) k l
   merges-lawful s n l {s′} (more {s′ = s₁} {m = m} ms step) =
       let k : suc (n + m) ≡ n + suc m = omega arith in
       subst (λ (i : ℕ). Lawful b start s′ i) k (merge-lawful s₁ s′ (n + m) step (merges-lawful s n l ms))
@@ -73,5 +73,5 @@ module _ (rules rules′ : List Rule) (wider : (r : Rule) → r ∈ rules → r 
   wider-clash start s c = record { x = c .x; y = c .y; spot = wider-spot (current start s) (c .x) (c .y) (c .spot); constants = c .constants }
 
   pub wider-merges : (start : Pattern) (s : State) {s′ : State} {m : ℕ} → Merges rules start s s′ m → Merges rules′ start s s′ m
-  wider-merges start s (none e) = none e
+  wider-merges start s none = none
   wider-merges start s {s′} (more {s′ = s₁} ms step) = more (wider-merges start s ms) (wider-merge start s₁ s′ step)

@@ -8,3 +8,6 @@ pub mod Reading
 pub mod Verdicts
 pub mod Histories
 pub mod Kept
+pub mod Search
+pub mod Ends
+pub mod SameEnd

@@ -74,12 +74,12 @@ pub record Least (s : State) (v u : ℕ) : Type 0 where
   pub itself : s u ≡ base + u
   pub least : u ≤ v
 
--- a symbol that shows as no constant shows as the least of its group, which is a starting symbol if it is one
+-- a starting symbol that shows as no constant shows as the least of its group, a starting symbol too
 abbrev pub Shape : Pattern → State → Type 0
-Shape start s = (v : ℕ) → base ≤ s v → (u : ℕ) × Least s v u × (Stands v start → Stands u start)
+Shape start s = (v : ℕ) → Stands v start → base ≤ s v → (u : ℕ) × Least s v u × Stands u start
 
-pub alone-shape : (start : Pattern) (s : State) → Alone s → Shape start s
-alone-shape start s alone v l = let e = alone v in (v, record { shown = e; itself = e; least = omega arith }, λ k. k)
+pub alone-shape : (start : Pattern) (s : State) → Alone start s → Shape start s
+alone-shape start s alone v k l = let e = alone v k in (v, record { shown = e; itself = e; least = omega arith }, k)
 
 -- a number that a starting symbol shows as
 abbrev pub Shown-by : Pattern → State → ℕ → Type 0
@@ -113,33 +113,33 @@ module _ (b : BookMeaning) (start : Pattern) (fit : Fit b start) where
 
   -- one merge: the group of M, which is no constant, shows as N from now on
   module _ (s s′ : State) (M N : ℕ) (less : N < M) (no-constant : base ≤ M) (high : Shown-by start s M) (low : base ≤ N → Shown-by start s N)
-      (merged : (v : ℕ) → s′ v ≡ cond (eqb (s v) M) N (s v)) where
-    moves : (v : ℕ) → s v ≡ M → s′ v ≡ N
-    moves v e = merged v ∙ cond-true (eqb (s v) M) N (s v) (eq-eqb (s v) M e)
+      (merged : (v : ℕ) → Stands v start → s′ v ≡ cond (eqb (s v) M) N (s v)) where
+    moves : (v : ℕ) → Stands v start → s v ≡ M → s′ v ≡ N
+    moves v k e = merged v k ∙ cond-true (eqb (s v) M) N (s v) (eq-eqb (s v) M e)
 
-    stays : (v : ℕ) → (s v ≡ M → ⊥) → s′ v ≡ s v
-    stays v d = merged v ∙ cond-false (eqb (s v) M) N (s v) (ne-eqb (s v) M d)
+    stays : (v : ℕ) → Stands v start → (s v ≡ M → ⊥) → s′ v ≡ s v
+    stays v k d = merged v k ∙ cond-false (eqb (s v) M) N (s v) (ne-eqb (s v) M d)
 
     shape-after : Shape start s → Shape start s′
-    shape-after shape v l = go (cases-eq (s v) M)
+    shape-after shape v st l = go (cases-eq (s v) M)
       where
-        go : (s v ≡ M) ⊎ (s v ≡ M → ⊥) → (u : ℕ) × Least s′ v u × (Stands v start → Stands u start)
+        go : (s v ≡ M) ⊎ (s v ≡ M → ⊥) → (u : ℕ) × Least s′ v u × Stands u start
         go (inl e) =
-            let e′ = moves v e in
+            let e′ = moves v st e in
             let k = low (omega arith) in
             let shows = k .2 in
-            let head = shape (k .0) (omega arith) in
+            let head = shape (k .0) (k .1) (omega arith) in
             let is = head .1 .shown in
             let itself = head .1 .itself in
-            let old = shape v (omega arith) in
+            let old = shape v st (omega arith) in
             let shown = old .1 .shown in
             let least = old .1 .least in
-            let kept = stays (head .0) (λ c. omega arith) in
-            (head .0, record { shown = e′ ∙ sym (k .2) ∙ is; itself = kept ∙ itself; least = omega arith }, λ st. head .2 (k .1))
+            let kept = stays (head .0) (head .2) (λ c. omega arith) in
+            (head .0, record { shown = e′ ∙ sym (k .2) ∙ is; itself = kept ∙ itself; least = omega arith }, head .2)
         go (inr d) =
-            let e′ = stays v d in
-            let old = shape v (omega arith) in
-            let kept = stays (old .0) (λ c. d (old .1 .shown ∙ sym (old .1 .itself) ∙ c)) in
+            let e′ = stays v st d in
+            let old = shape v st (omega arith) in
+            let kept = stays (old .0) (old .2) (λ c. d (old .1 .shown ∙ sym (old .1 .itself) ∙ c)) in
             (old .0, record { shown = e′ ∙ old .1 .shown; itself = kept ∙ old .1 .itself; least = old .1 .least }, old .2)
 
     abbrev before : List ℕ
@@ -156,28 +156,30 @@ module _ (b : BookMeaning) (start : Pattern) (fit : Fit b start) where
     gone m =
         let k = member-unknown later M m in
         let q = Memᴰ·of-map s′ (symbols start) (k .0) in
+        let st = symbol-stands start (q .0) (q .1) in
         elim (cases-eq (s (q .0)) M) [
-          | inl e ↦ (let e′ = moves (q .0) e in let is = q .2 in omega arith)
-          | inr d ↦ d (sym (stays (q .0) d) ∙ q .2)
+          | inl e ↦ (let e′ = moves (q .0) st e in let is = q .2 in omega arith)
+          | inr d ↦ d (sym (stays (q .0) st d) ∙ q .2)
         ]
 
     forth : (n : ℕ) → n ≢ M → n ∈ unknowns before → n ∈ unknowns later
     forth n d m =
         let k = member-unknown before n m in
         let q = Memᴰ·of-map s (symbols start) (k .0) in
-        let e : s′ (q .0) ≡ n = stays (q .0) (λ c. d (sym (q .2) ∙ c)) ∙ q .2 in
+        let e : s′ (q .0) ≡ n = stays (q .0) (symbol-stands start (q .0) (q .1)) (λ c. d (sym (q .2) ∙ c)) ∙ q .2 in
         unknown-member later n (Memᴰ·cast (sym e) (Memᴰ·map s′ (q .1))) (k .1)
 
     back : (n : ℕ) → n ≢ M → n ∈ unknowns later → n ∈ unknowns before
     back n d m =
         let k = member-unknown later n m in
         let q = Memᴰ·of-map s′ (symbols start) (k .0) in
+        let st = symbol-stands start (q .0) (q .1) in
         elim (cases-eq (s (q .0)) M) [
           | inl e ↦
-              (let is : N ≡ n = sym (moves (q .0) e) ∙ q .2 in
+              (let is : N ≡ n = sym (moves (q .0) st e) ∙ q .2 in
               let l = k .1 in
               subst (λ (i : ℕ). i ∈ unknowns before) is (shown-member N (low (omega arith)) (omega arith)))
-          | inr c ↦ unknown-member before n (Memᴰ·cast (sym (sym (stays (q .0) c) ∙ q .2)) (Memᴰ·map s (q .1))) (k .1)
+          | inr c ↦ unknown-member before n (Memᴰ·cast (sym (sym (stays (q .0) st c) ∙ q .2)) (Memᴰ·map s (q .1))) (k .1)
         ]
 
     one-less : group-count start s ≡ suc (group-count start s′)
@@ -206,32 +208,40 @@ module _ (b : BookMeaning) (start : Pattern) (fit : Fit b start) where
       (high-shown s s′ m) (low-shown s s′ m) (m .merged)
 
 -- at first each starting symbol is a group
-module _ (s : State) (alone : Alone s) where
-  eqb-alone : (u v : ℕ) → eqb (s u) (s v) ≡ eqb u v
-  eqb-alone u v =
+module _ (s : State) where
+  eqb-alone : (u v : ℕ) → s u ≡ base + u → s v ≡ base + v → eqb (s u) (s v) ≡ eqb u v
+  eqb-alone u v a a′ =
       elim (cases-eq u v) [
         | inl e ↦ eq-eqb (s u) (s v) (ap s e) ∙ sym (eq-eqb u v e)
-        | inr d ↦ ne-eqb (s u) (s v) (λ c. d (let a = alone u in let a′ = alone v in omega arith)) ∙ sym (ne-eqb u v d)
+        | inr d ↦ ne-eqb (s u) (s v) (λ c. d (omega arith)) ∙ sym (ne-eqb u v d)
       ]
 
-  holds-alone : (vs : List ℕ) (v : ℕ) → holds (map s vs) (s v) ≡ holds vs v
-  holds-alone [] v = refl
-  holds-alone (u ∷ vs) v = ap₂ _||_ (eqb-alone u v) (holds-alone vs v)
+  abbrev All-alone : List ℕ → Type 0
+  All-alone vs = (v : ℕ) → v ∈ vs → s v ≡ base + v
 
-  different-alone : (vs : List ℕ) → different (map s vs) ≡ different vs
-  different-alone [] = refl
-  different-alone (v ∷ vs) = ap₂ (λ (k : Bool) (n : ℕ). cond k n (suc n)) (holds-alone vs v) (different-alone vs)
+  holds-alone : (vs : List ℕ) → All-alone vs → (v : ℕ) → s v ≡ base + v → holds (map s vs) (s v) ≡ holds vs v
+  holds-alone [] alone v e = refl
+  holds-alone (u ∷ vs) alone v e =
+      ap₂ _||_ (eqb-alone u v (alone u (List·Memᴰ·head refl)) e) (holds-alone vs (λ w m. alone w (List·Memᴰ·tail m)) v e)
 
-  unknown-alone : (vs : List ℕ) → unknowns (map s vs) ≡ map s vs
-  unknown-alone [] = refl
-  unknown-alone (v ∷ vs) =
-      let e = alone v in
+  different-alone : (vs : List ℕ) → All-alone vs → different (map s vs) ≡ different vs
+  different-alone [] alone = refl
+  different-alone (v ∷ vs) alone =
+      let rest : All-alone vs = λ w m. alone w (List·Memᴰ·tail m) in
+      ap₂ (λ (k : Bool) (n : ℕ). cond k n (suc n)) (holds-alone vs rest v (alone v (List·Memᴰ·head refl))) (different-alone vs rest)
+
+  unknown-alone : (vs : List ℕ) → All-alone vs → unknowns (map s vs) ≡ map s vs
+  unknown-alone [] alone = refl
+  unknown-alone (v ∷ vs) alone =
+      let e = alone v (List·Memᴰ·head refl) in
       let l : base ≤ s v = omega arith in
       cond-false (ltb (s v) base) (unknowns (map s vs)) (s v ∷ unknowns (map s vs)) (le-ltb (s v) base l) ∙
-      ap (λ (ns : List ℕ). s v ∷ ns) (unknown-alone vs)
+      ap (λ (ns : List ℕ). s v ∷ ns) (unknown-alone vs (λ w m. alone w (List·Memᴰ·tail m)))
 
-  pub alone-counts : (start : Pattern) → group-count start s ≡ symbol-count start
-  alone-counts start = ap different (unknown-alone (symbols start)) ∙ different-alone (symbols start)
+  pub alone-counts : (start : Pattern) → Alone start s → group-count start s ≡ symbol-count start
+  alone-counts start alone =
+      let all : All-alone (symbols start) = λ v m. alone v (symbol-stands start v m) in
+      ap different (unknown-alone (symbols start) all) ∙ different-alone (symbols start) all
 
 -- there are at most 64 starting symbols
 pub few-symbols : (b : BookMeaning) (start : Pattern) → Fit b start → symbol-count start ≤ 64

@@ -13,7 +13,7 @@ use Rattle.rules.specs.declared.term.Term.the-variants.{Constant, Variable}
 use Rattle.rules.specs.declared.term.Kind.{Kind}
 use Rattle.rules.specs.declared.term.Kind.the-variants.{Functional, Equality}
 use Rattle.rules.specs.Rules.{_∈_, Relation, Pattern, Valuation, at, Places, Rule, Agree, Compares, Keeps}
-use Rattle.rules.specs.Books.{BookMeaning, base, Small}
+use Rattle.rules.specs.Books.{BookMeaning, base, Small, Stands}
 use Rattle.rules.proofs.Members.{map-on}
 use Rattle.law.specs.Implied.{Model}
 use Rattle.law.specs.Groups.{Entry, Forced, State, Alone, One-group, current}
@@ -39,13 +39,13 @@ reading-at : (h f : Valuation) (e : Term) → Low e → reading h (at f e) ≡ a
 reading-at h f (Constant c) l = reading-constant h c l
 reading-at h f (Variable v) l = refl
 
--- h gives each symbol the reading of what it shows as: h goes through the state
-abbrev pub Through : Valuation → State → Type 0
-Through h s = (v : ℕ) → reading h (s v) ≡ h v
+-- h gives each starting symbol the reading of what it shows as: h goes through the state
+abbrev pub Through : Pattern → Valuation → State → Type 0
+Through start h s = (v : ℕ) → Stands v start → reading h (s v) ≡ h v
 
-through-at : (h : Valuation) (s : State) → Through h s → (e : Term) → Low e → reading h (at s e) ≡ at h e
-through-at h s through (Constant c) l = reading-constant h c l
-through-at h s through (Variable v) l = through v
+through-at : (start : Pattern) (h : Valuation) (s : State) → Through start h s → (e : Term) → Entry start e → reading h (at s e) ≡ at h e
+through-at start h s through (Constant c) k = reading-constant h c k
+through-at start h s through (Variable v) k = through v k
 
 -- what a rule compares it compares after a function too
 agree-after : (k : Kind) (left : List ℕ) (F : ℕ → ℕ) (f g : Valuation) → Agree k left f g → Agree k left (λ v. F (f v)) (λ v. F (g v))
@@ -58,13 +58,13 @@ Impossible b start = (rel : Relation) → Model b rel → (h : Valuation) → Pl
 
 -- every placing of the starting rows, in every relation that keeps the book, goes through the state
 abbrev pub Sound : BookMeaning → Pattern → State → Type 0
-Sound b start s = (rel : Relation) → Model b rel → (h : Valuation) → Places h start rel → Through h s
+Sound b start s = (rel : Relation) → Model b rel → (h : Valuation) → Places h start rel → Through start h s
 
-pub alone-sound : (b : BookMeaning) (start : Pattern) (s : State) → Alone s → Sound b start s
-alone-sound b start s alone rel model h placed v = ap (reading h) (alone v) ∙ reading-symbol h v
+pub alone-sound : (b : BookMeaning) (start : Pattern) (s : State) → Alone start s → Sound b start s
+alone-sound b start s alone rel model h placed v k = ap (reading h) (alone v k) ∙ reading-symbol h v
 
 module _ (b : BookMeaning) (start : Pattern) (fit : Fit b start) where
-  module _ (s : State) (rel : Relation) (model : Model b rel) (h : Valuation) (placed : Places h start rel) (through : Through h s) where
+  module _ (s : State) (rel : Relation) (model : Model b rel) (h : Valuation) (placed : Places h start rel) (through : Through start h s) where
     -- a placing in the current rows, read by h, is one in the relation
     carried : (p : Pattern) → ((row : List Term) → row ∈ p → (e : Term) → e ∈ row → Small e) →
         (f : Valuation) → Places f p (current start s) → Places (λ v. reading h (f v)) p rel
@@ -75,7 +75,7 @@ module _ (b : BookMeaning) (start : Pattern) (fit : Fit b start) where
         sym (map-map (reading h) (at f) row) ∙
         sym (ap (map (reading h)) (q .2)) ∙
         map-map (reading h) (at s) (q .0) ∙
-        map-on (λ e. reading h (at s e)) (at h) (q .0) (λ e k. through-at h s through e (known-low start e (fit .entries (q .0) (q .1) e k))))
+        map-on (λ e. reading h (at s e)) (at h) (q .0) (λ e k. through-at start h s through e (fit .entries (q .0) (q .1) e k)))
         (placed (q .0) (q .1))
 
     -- the two sides of an open spot have one reading
@@ -101,19 +101,19 @@ module _ (b : BookMeaning) (start : Pattern) (fit : Fit b start) where
 
   -- a merge keeps a sound state sound
   pub merge-sound : (s s′ : State) → Merge (b .rules) start s s′ → Sound b start s → Sound b start s′
-  merge-sound s s′ m sound rel model h placed v =
+  merge-sound s s′ m sound rel model h placed v stands =
       let through = sound rel model h placed in
       let e = spot-reads s rel model h placed through (m .x) (m .y) (m .spot) in
-      ap (reading h) (m .merged v) ∙
+      ap (reading h) (m .merged v stands) ∙
       cond-both (eqb (s v) (max (m .x) (m .y))) (min (m .x) (m .y)) (s v) (λ k. reading h k ≡ h v)
-      (λ k. min-max (reading h) (m .x) (m .y) e ∙ sym (ap (reading h) (eqb-true (s v) (max (m .x) (m .y)) k)) ∙ through v)
-      (λ k. through v)
+      (λ k. min-max (reading h) (m .x) (m .y) e ∙ sym (ap (reading h) (eqb-true (s v) (max (m .x) (m .y)) k)) ∙ through v stands)
+      (λ k. through v stands)
 
   -- what is in one group is forced
   pub forced : (s : State) → Sound b start s → (e e′ : Term) → Entry start e → Entry start e′ → One-group s e e′ → Forced b start e e′
   forced s sound e e′ k k′ one rel model h placed =
       let through = sound rel model h placed in
-      sym (through-at h s through e (known-low start e k)) ∙ ap (reading h) one ∙ through-at h s through e′ (known-low start e′ k′)
+      sym (through-at start h s through e k) ∙ ap (reading h) one ∙ through-at start h s through e′ k′
 
   -- a clash leaves no placing
   pub clash-impossible : (s : State) → Sound b start s → Clashing (b .rules) start s → Impossible b start

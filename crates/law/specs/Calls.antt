@@ -16,7 +16,7 @@ use Rattle.law.specs.declared.outcome.Stop.the-variants.{Spent, Rest, Clash}
 use Rattle.law.specs.declared.outcome.Verdict.{Verdict}
 use Rattle.law.specs.declared.outcome.Verdict.the-variants.{Void, Follows, Fails}
 use Rattle.law.specs.Groups.{State, Alone, current}
-use Rattle.law.specs.Runs.{Clashing, At-rest, Merges, Reached}
+use Rattle.law.specs.Runs.{Clashing, At-rest, Merges, Ended}
 
 -- a started trial: its target's width, the rows and pairs of its target's doubled form, what each symbol shows as, the
 -- merges made over its life, and whether it has clashed
@@ -58,7 +58,7 @@ pub data Starts (b targets : BookMeaning) (k : ℕ) : View → Answer → View �
   not-blank : {x : Started} → Starts b targets k (Going x) (Refused 10 0) (Going x)
   no-rule : length (targets .rules) ≤ k → Starts b targets k Blank (Refused 8 k) Blank
   targets-width : k < length (targets .rules) → targets .width ≢ b .width → Starts b targets k Blank (Refused 9 0) Blank
-  begun : {t : Rule} {s : State} → nth (targets .rules) k ≡ Some t → targets .width ≡ b .width → Alone s →
+  begun : {t : Rule} {s : State} → nth (targets .rules) k ≡ Some t → targets .width ≡ b .width → Alone (doubled-rows t) s →
       Starts b targets k Blank Done (Going (fresh (targets .width) t s))
 
 -- Advance by n with the book b. A trial that has clashed stays so. Else it stops at the first of, in this order: n
@@ -84,12 +84,9 @@ pub data Finishes (b : BookMeaning) : View → Finished → Type 0 where
   never-begun : Finishes b Blank (record { verdict = Void; left = Blank })
   finish-width : {x : Started} → x .width ≢ b .width → Finishes b (Going x) (record { verdict = Void; left = Going x })
   clashed-before : {x : Started} → x .width ≡ b .width → x .clashed ≡ true → Finishes b (Going x) (record { verdict = Follows; left = Going x })
-  ends-clashing : {x : Started} {s : State} {m : ℕ} → x .width ≡ b .width → x .clashed ≡ false → Merges (b .rules) (x .rows) (x .shows) s m →
-      Clashing (b .rules) (x .rows) s → Finishes b (Going x) (record { verdict = Follows; left = Going (moved x s m true) })
-  ends-following : {x : Started} {s : State} {m : ℕ} → x .width ≡ b .width → x .clashed ≡ false → Merges (b .rules) (x .rows) (x .shows) s m →
-      At-rest (b .rules) (x .rows) s → Reached (x .pairs) s → Finishes b (Going x) (record { verdict = Follows; left = Going (moved x s m false) })
-  ends-failing : {x : Started} {s : State} {m : ℕ} → x .width ≡ b .width → x .clashed ≡ false → Merges (b .rules) (x .rows) (x .shows) s m →
-      At-rest (b .rules) (x .rows) s → (Reached (x .pairs) s → ⊥) → Finishes b (Going x) (record { verdict = Fails; left = Going (moved x s m false) })
+  ended : {x : Started} {s : State} {m : ℕ} {c : Bool} {v : Verdict} → x .width ≡ b .width → x .clashed ≡ false →
+      Merges (b .rules) (x .rows) (x .shows) s m → Ended (b .rules) (x .rows) (x .pairs) s c v →
+      Finishes b (Going x) (record { verdict = v; left = Going (moved x s m c) })
 
 -- the width that a finished trial tells: its target's, or 1 for a blank trial
 abbrev pub width-of : View → ℕ

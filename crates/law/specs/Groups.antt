@@ -10,7 +10,7 @@ use Rattle.std.specs.declared.option.Option.the-variants.{Some}
 use Rattle.rules.specs.declared.term.Term.{Term}
 use Rattle.rules.specs.declared.term.Term.the-variants.{Constant, Variable}
 use Rattle.rules.specs.Rules.{Relation, Pattern, Valuation, at, Places}
-use Rattle.rules.specs.Books.{BookMeaning, base, Known, within}
+use Rattle.rules.specs.Books.{BookMeaning, base, Stands, Known, within}
 use Rattle.rules.specs.Doubled.{holds}
 use Rattle.law.specs.Implied.{Model}
 
@@ -24,14 +24,14 @@ Entry start e = Known start e
 abbrev pub Forced : BookMeaning → Pattern → Term → Term → Type 0
 Forced b start e e′ = (rel : Relation) → Model b rel → (h : Valuation) → Places h start rel → at h e ≡ at h e′
 
--- What each symbol shows as: its group's constant, or else 16,777,216 plus the group's least symbol. A constant shows
--- as itself.
+-- What each starting symbol shows as: its group's constant, or else 16,777,216 plus the group's least symbol. A
+-- constant shows as itself. Of other symbols it says nothing.
 abbrev pub State : Type 0
 State = Valuation
 
--- each symbol is alone in its group
-abbrev pub Alone : State → Type 0
-Alone s = (v : ℕ) → s v ≡ base + v
+-- each starting symbol is alone in its group
+abbrev pub Alone : Pattern → State → Type 0
+Alone start s = (v : ℕ) → Stands v start → s v ≡ base + v
 
 -- two entries are in one group (they are merged): they show as one number
 abbrev pub One-group : State → Term → Term → Type 0

@@ -24,7 +24,7 @@ pub record Turn : Type 0 where
 -- how a list of calls ends: it goes on, or its last call was a finish with this book
 pub data Ending : Type 0 where
   Unfinished : Ending
-  Ended : BookMeaning → Finished → Ending
+  Finished-by : BookMeaning → Finished → Ending
 
 -- what the call may do: its book, what it asks, the trial before, its answer, the trial after
 abbrev pub Steps : BookMeaning → Call → View → Answer → View → Type 0
@@ -45,12 +45,12 @@ last-view x (y ∷ views) = last-view y views
 -- the finished trial is one that finish may give
 abbrev pub Answered-last : View → Ending → Type 0
 Answered-last x Unfinished = Unit {0}
-Answered-last x (Ended b f) = Finishes b x f
+Answered-last x (Finished-by b f) = Finishes b x f
 
 -- every view of the trial, the one that finish left too
 abbrev pub seen : List View → Ending → List View
 seen views Unfinished = views
-seen views (Ended b f) = views ++ (f .left ∷ [])
+seen views (Finished-by b f) = views ++ (f .left ∷ [])
 
 -- the rule that a start which was not refused names
 abbrev pub named : Call → Answer → Option Rule
@@ -71,7 +71,7 @@ target-of (t ∷ turns) = or-later (named (t .call) (t .answer)) (target-of turn
 -- what holds of the finished trial, if there is one
 abbrev pub Once-finished : Ending → (Finished → Type 0) → Type 0
 Once-finished Unfinished P = Unit {0}
-Once-finished (Ended b f) P = P f
+Once-finished (Finished-by b f) P = P f
 
 -- What is promised of the rules of a book, of a list of turns on a blank trial, of the views of the trial after each
 -- turn, and of how it ended.
@@ -113,7 +113,7 @@ pub record Given (b : BookMeaning) (t : Turn) : Type 0 where
 
 abbrev pub Given-last : BookMeaning → Ending → Type 0
 Given-last b Unfinished = Unit {0}
-Given-last b (Ended c f) = c ≡ b
+Given-last b (Finished-by c f) = c ≡ b
 
 -- a history of a trial: every call in it was given this one book, and has its defined answer
 pub record History (b : BookMeaning) (turns : List Turn) (views : List View) : Type 0 where
