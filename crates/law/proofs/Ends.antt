@@ -44,7 +44,7 @@ alike s (p ∷ ps) = go (cases-eq (at s (p .0)) (at s (p .1))) (alike s ps)
 
 module _ (b : BookMeaning) (start : Pattern) (fit : Fit b start) (pairs : List (Term × Term)) where
   pub rest-from : (s : State) → find-spot (b .rules) (current start s) ≡ nothing → At-rest (b .rules) start s
-  rest-from s e = nothing-open (b .width) (b .rules) (current start s) (fit .rules-fit) e
+  rest-from s e = nothing-open (b .width) (b .rules) (current start s) (fit .held .rules-fit) e
 
   pub merge-from : (s : State) (x y : ℕ) → find-spot (b .rules) (current start s) ≡ spot x y → base ≤ max x y →
       Merge (b .rules) start s (merge-state x y s)

@@ -25,8 +25,8 @@ module _ (b : BookMeaning) (start : Pattern) (fit : Fit b start) where
   pub merge-lawful : (s s′ : State) (n : ℕ) → Merge (b .rules) start s s′ → Lawful b start s n → Lawful b start s′ (suc n)
   merge-lawful s s′ n m l =
       let before = l .counted in
-      let step = merge-counts b start fit s s′ m in
-      record { sound = merge-sound b start fit s s′ m (l .sound); shape = merge-shape b start fit s s′ m (l .shape); counted = omega arith }
+      let step = merge-counts (b .width) (b .rules) start (fit .held) s s′ m in
+      record { sound = merge-sound b start fit s s′ m (l .sound); shape = merge-shape (b .width) (b .rules) start (fit .held) s s′ m (l .shape); counted = omega arith }
 
   pub merges-lawful : (s : State) (n : ℕ) → Lawful b start s n → {s′ : State} {m : ℕ} → Merges (b .rules) start s s′ m → Lawful b start s′ (n + m)
   merges-lawful s n l none =

@@ -11,3 +11,5 @@ pub mod Kept
 pub mod Search
 pub mod Ends
 pub mod SameEnd
+pub mod Storing
+pub mod RunEnds

@@ -78,7 +78,7 @@ module _ (b : BookMeaning) (start : Pattern) (fit : Fit b start) where
 
   pub same-rows : (s s′ : State) → ((v : ℕ) → Stands v start → s v ≡ s′ v) → current start s ≡ current start s′
   same-rows s s′ same =
-      map-on (map (at s)) (map (at s′)) start (λ row n. map-on (at s) (at s′) row (λ e m. same-at s s′ same e (fit .entries row n e m)))
+      map-on (map (at s)) (map (at s′)) start (λ row n. map-on (at s) (at s′) row (λ e m. same-at s s′ same e (fit .held .entries row n e m)))
 
   -- where one state shows that no placing exists, no other comes to rest
   pub never-both : Impossible b start → (s : State) → At-rest (b .rules) start s → ⊥

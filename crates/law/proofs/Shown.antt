@@ -9,11 +9,12 @@ use lib.Dec.{eqb, ltb}
 use Rattle.std.proofs.shelf.Tests.{cond-true, cond-false, eq-eqb, ne-eqb, le-ltb, ltb-false, cases-eq}
 use Rattle.rules.specs.declared.term.Term.{Term}
 use Rattle.rules.specs.declared.term.Term.the-variants.{Constant, Variable}
-use Rattle.rules.specs.Rules.{_∈_, Pattern, Valuation, at, Places}
+use Rattle.rules.specs.Rules.{_∈_, Pattern, Valuation, at, Places, Rule}
 use Rattle.rules.specs.Books.{BookMeaning, base, Known, Stands}
 use Rattle.rules.specs.Doubled.{holds}
 use Rattle.law.specs.Groups.{State, Alone, current, different, row-symbols, symbols, unknowns, symbol-count, group-count}
 use Rattle.law.specs.Runs.{Open-spot, Merge}
+use Rattle.law.specs.Stored.{Held}
 use Rattle.law.proofs.Lists.{at-max, at-min}
 use Rattle.law.proofs.Counts.{different-less, different-most}
 use Rattle.law.proofs.Starting.{Fit}
@@ -85,9 +86,9 @@ alone-shape start s alone v k l = let e = alone v k in (v, record { shown = e; i
 abbrev pub Shown-by : Pattern → State → ℕ → Type 0
 Shown-by start s n = (v : ℕ) × Stands v start × (s v ≡ n)
 
-module _ (b : BookMeaning) (start : Pattern) (fit : Fit b start) where
+module _ (width : ℕ) (rules : List Rule) (start : Pattern) (held : Held width rules start) where
   entry-shown : (s : State) (row : List Term) → row ∈ start → (e : Term) → e ∈ row → base ≤ at s e → Shown-by start s (at s e)
-  entry-shown s row n (Constant c) m l = let small : c < base = fit .entries row n (Constant c) m in absurd (omega arith)
+  entry-shown s row n (Constant c) m l = let small : c < base = held .entries row n (Constant c) m in absurd (omega arith)
   entry-shown s row n (Variable v) m l = (v, (row, n, m), refl)
 
   -- a number that a placing in the current rows gives to a term of its pattern is a constant, or one that a starting symbol shows as
@@ -99,15 +100,15 @@ module _ (b : BookMeaning) (start : Pattern) (fit : Fit b start) where
       let w = Memᴰ·of-map (at s) (q .0) (subst (λ (row : List ℕ). f v ∈ row) (sym (q .2)) m) in
       subst (Shown-by start s) (w .2) (entry-shown s (q .0) (q .1) (w .0) (w .1) (subst (λ (n : ℕ). base ≤ n) (sym (w .2)) l))
 
-  pub left-shown : (s : State) (x y : ℕ) → Open-spot (b .rules) (current start s) x y → base ≤ x → Shown-by start s x
+  pub left-shown : (s : State) (x y : ℕ) → Open-spot rules (current start s) x y → base ≤ x → Shown-by start s x
   left-shown s x y o l =
-      let k = fit .rules-fit (o .rule) (o .listed) .pairs-known (o .pair) (o .paired) in
+      let k = held .rules-fit (o .rule) (o .listed) .pairs-known (o .pair) (o .paired) in
       subst (Shown-by start s) (o .left-is)
       (placed-shown s (o .rule .pattern) (o .first) (o .compared .first) (o .pair .0) (k .0) (subst (λ (n : ℕ). base ≤ n) (sym (o .left-is)) l))
 
-  pub right-shown : (s : State) (x y : ℕ) → Open-spot (b .rules) (current start s) x y → base ≤ y → Shown-by start s y
+  pub right-shown : (s : State) (x y : ℕ) → Open-spot rules (current start s) x y → base ≤ y → Shown-by start s y
   right-shown s x y o l =
-      let k = fit .rules-fit (o .rule) (o .listed) .pairs-known (o .pair) (o .paired) in
+      let k = held .rules-fit (o .rule) (o .listed) .pairs-known (o .pair) (o .paired) in
       subst (Shown-by start s) (o .right-is)
       (placed-shown s (o .rule .pattern) (o .second) (o .compared .second) (o .pair .1) (k .1) (subst (λ (n : ℕ). base ≤ n) (sym (o .right-is)) l))
 
@@ -188,21 +189,21 @@ module _ (b : BookMeaning) (start : Pattern) (fit : Fit b start) where
   lesser : (x y : ℕ) → x ≢ y → min x y < max x y
   lesser x y d = omega arith
 
-  high-shown : (s s′ : State) (m : Merge (b .rules) start s s′) → Shown-by start s (max (m .x) (m .y))
+  high-shown : (s s′ : State) (m : Merge rules start s s′) → Shown-by start s (max (m .x) (m .y))
   high-shown s s′ m =
       at-max (λ n. base ≤ n → Shown-by start s n) (m .x) (m .y) (left-shown s (m .x) (m .y) (m .spot)) (right-shown s (m .x) (m .y) (m .spot)) (m .no-clash)
 
-  low-shown : (s s′ : State) (m : Merge (b .rules) start s s′) → base ≤ min (m .x) (m .y) → Shown-by start s (min (m .x) (m .y))
+  low-shown : (s s′ : State) (m : Merge rules start s s′) → base ≤ min (m .x) (m .y) → Shown-by start s (min (m .x) (m .y))
   low-shown s s′ m =
       at-min (λ n. base ≤ n → Shown-by start s n) (m .x) (m .y) (left-shown s (m .x) (m .y) (m .spot)) (right-shown s (m .x) (m .y) (m .spot))
 
-  pub merge-shape : (s s′ : State) → Merge (b .rules) start s s′ → Shape start s → Shape start s′
+  pub merge-shape : (s s′ : State) → Merge rules start s s′ → Shape start s → Shape start s′
   merge-shape s s′ m =
       shape-after s s′ (max (m .x) (m .y)) (min (m .x) (m .y)) (lesser (m .x) (m .y) (m .spot .differ)) (m .no-clash)
       (high-shown s s′ m) (low-shown s s′ m) (m .merged)
 
   -- each merge leaves one group less, of those that hold a starting symbol and no constant
-  pub merge-counts : (s s′ : State) → Merge (b .rules) start s s′ → group-count start s ≡ suc (group-count start s′)
+  pub merge-counts : (s s′ : State) → Merge rules start s s′ → group-count start s ≡ suc (group-count start s′)
   merge-counts s s′ m =
       one-less s s′ (max (m .x) (m .y)) (min (m .x) (m .y)) (lesser (m .x) (m .y) (m .spot .differ)) (m .no-clash)
       (high-shown s s′ m) (low-shown s s′ m) (m .merged)

@@ -75,7 +75,7 @@ module _ (b : BookMeaning) (start : Pattern) (fit : Fit b start) where
         sym (map-map (reading h) (at f) row) ∙
         sym (ap (map (reading h)) (q .2)) ∙
         map-map (reading h) (at s) (q .0) ∙
-        map-on (λ e. reading h (at s e)) (at h) (q .0) (λ e k. through-at start h s through e (fit .entries (q .0) (q .1) e k)))
+        map-on (λ e. reading h (at s e)) (at h) (q .0) (λ e k. through-at start h s through e (fit .held .entries (q .0) (q .1) e k)))
         (placed (q .0) (q .1))
 
     -- the two sides of an open spot have one reading
@@ -85,7 +85,7 @@ module _ (b : BookMeaning) (start : Pattern) (fit : Fit b start) where
         let p = o .pair in
         let f = o .first in
         let g = o .second in
-        let fits = fit .rules-fit r (o .listed) in
+        let fits = fit .held .rules-fit r (o .listed) in
         let e =
         model .keeps r (o .listed) (λ v. reading h (f v)) (λ v. reading h (g v))
         (record {

@@ -15,12 +15,12 @@ use Rattle.rules.specs.Rules.{_∈_, Pattern, Rule}
 use Rattle.rules.specs.Books.{BookMeaning, base, Small, Stands, Known, Well-formed, Well-formed-book}
 use Rattle.rules.specs.Doubled.{holds, copied, doubled-rows-as, doubled-rows, doubled-pairs-as, doubled-pairs}
 use Rattle.law.specs.Groups.{Entry}
+use Rattle.law.specs.Stored.{Held}
 
--- the rules are well formed, and the starting rows are rows of entries of their width
+-- the rules are well formed, and the starting rows are rows of entries, of the rules' width, with symbols below 64
 pub record Fit (b : BookMeaning) (start : Pattern) : Type 0 where
-  pub rules-fit : (r : Rule) → r ∈ b .rules → Well-formed (b .width) r
+  pub held : Held (b .width) (b .rules) start
   pub of-width : (row : List Term) → row ∈ start → length row ≡ b .width
-  pub entries : (row : List Term) → row ∈ start → (e : Term) → e ∈ row → Entry start e
   pub near : (v : ℕ) → Stands v start → v < 64
 
 -- a constant is small; of a variable nothing is asked
@@ -82,7 +82,7 @@ module _ (w : ℕ) (t : Rule) (fits : Well-formed w t) where
   entries row n (Constant c) m = near-all row n (Constant c) m
   entries row n (Variable v) m = (row, n, m)
 
-  near : (v : ℕ) → Stands v (doubled-rows t) → v < 64
+  pub near : (v : ℕ) → Stands v (doubled-rows t) → v < 64
   near v k = near-all (k .0) (k .1) (Variable v) (k .2)
 
 -- a term of a pair stands in the first copy, and copied it stands in the second
@@ -114,8 +114,7 @@ pair-entries w t fits = pair-entries-as (t .kind) t (fits .pairs-known)
 pub starts-fit : (b : BookMeaning) → Well-formed-book b → (t : Rule) → Well-formed (b .width) t → Fit b (doubled-rows t)
 starts-fit b fits t target-fits =
     record {
-      rules-fit = fits .rules-fit;
+      held = record { rules-fit = fits .rules-fit; entries = entries (b .width) t target-fits };
       of-width = width-as (t .kind) (b .width) t (target-fits .of-width);
-      entries = entries (b .width) t target-fits;
       near = near (b .width) t target-fits;
     }

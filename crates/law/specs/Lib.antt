@@ -3,4 +3,5 @@ pub mod Groups
 pub mod Runs
 pub mod Calls
 pub mod Promise
+pub mod Stored
 pub mod Laws
