@@ -13,3 +13,4 @@ pub mod Ends
 pub mod SameEnd
 pub mod Storing
 pub mod RunEnds
+pub mod Due

@@ -1,16 +1,18 @@
 -- The laws of trials.
 use mathlib.Core.Path.{_≡_}
-use mathlib.Core.Bool.{Bool, false}
+use mathlib.Core.Bool.{Bool, false, cond}
 use mathlib.Core.List.{List}
-use Prim.Native.Nat.{ℕ, _+_}
+use Prim.Native.Nat.{ℕ, _+_, _-_}
+use lib.Dec.{leb}
 use Rattle.std.specs.declared.option.Option.the-variants.{Some}
 use Rattle.rules.specs.Rules.{Pattern, Rule}
 use Rattle.rules.specs.Books.{BookMeaning, Stands, Well-formed, Well-formed-book}
 use Rattle.rules.specs.Doubled.{doubled-rows, doubled-pairs}
+use Rattle.law.specs.declared.outcome.Stop.the-variants.{Spent, Rest}
 use Rattle.law.specs.declared.outcome.Verdict.{Verdict}
 use Rattle.law.specs.Groups.{State}
 use Rattle.law.specs.Runs.{Run, Ended}
-use Rattle.law.specs.Calls.{Started, View, Blank, Going, Finished, Finishes, finished-rows}
+use Rattle.law.specs.Calls.{Started, View, Blank, Going, Answer, Made, Advances, Finished, Finishes, finished-rows}
 use Rattle.law.specs.Promise.{Turn, Ending, last-view, Answered-last, target-of, Promise, Given-last, History}
 
 -- Every list of calls keeps the promise, whichever open spots are taken.
@@ -68,3 +70,19 @@ Runs-end-alike =
     Run (b .rules) (doubled-rows t) s n → Run (b .rules) (doubled-rows t) s′ n′ → (clash clash′ : Bool) (v v′ : Verdict) →
     Ended (b .rules) (doubled-rows t) (doubled-pairs t) s clash v → Ended (b .rules) (doubled-rows t) (doubled-pairs t) s′ clash′ v′ →
     Same-run-end (doubled-rows t) s s′ n n′ clash clash′ v v′
+
+-- the answer to an advance by n, where so many merges are left to make before the trial comes to rest
+abbrev pub due : ℕ → ℕ → Answer
+due left n = cond (leb n left) (Made n Spent) (Made left Rest)
+
+abbrev pub merges-of : View → ℕ
+merges-of Blank = 0
+merges-of (Going x) = x .merges
+
+-- Where one run of the target comes to rest, its merges tell the answer to every advance of every trial of that target.
+abbrev pub Answers-due : Type 0
+Answers-due =
+    (b : BookMeaning) → Well-formed-book b → (t : Rule) → Well-formed (b .width) t → (s : State) (all : ℕ) (v : Verdict) →
+    Run (b .rules) (doubled-rows t) s all → Ended (b .rules) (doubled-rows t) (doubled-pairs t) s false v →
+    (turns : List Turn) (views : List View) → History b turns views → target-of turns ≡ Some t →
+    (n : ℕ) (a : Answer) (y : View) → Advances b n (last-view Blank views) a y → a ≡ due (all - merges-of (last-view Blank views)) n

@@ -1,5 +1,5 @@
 // The laws of trials.
-ghost use Rattle.law.specs.Laws.{Every-run-ends, Every-trial-ends, Promise-kept, Runs-end-alike, Same-end-whichever-spots};
+ghost use Rattle.law.specs.Laws.{Answers-due, Every-run-ends, Every-trial-ends, Promise-kept, Runs-end-alike, Same-end-whichever-spots};
 ghost use Rattle.law.specs.Stored.{Storing};
 
 // Every list of calls keeps the promise, whichever open spots are taken.
@@ -25,6 +25,11 @@ pub fn every_run_ends()
 // Two runs of one target that have ended did so alike.
 pub fn runs_end_alike()
     ensures { λ _. ⌜ Runs-end-alike ⌝ }
+{}
+
+// Where a run comes to rest, its merges tell the answer to every advance.
+pub fn answers_due()
+    ensures { λ _. ⌜ Answers-due ⌝ }
 {}
 
 // A list of numbers holds a state, and one pass over it makes a merge.
