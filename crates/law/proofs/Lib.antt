@@ -14,3 +14,5 @@ pub mod SameEnd
 pub mod Storing
 pub mod RunEnds
 pub mod Due
+pub mod Stands
+pub mod Unmoved
