@@ -46,7 +46,7 @@ module _ (b : BookMeaning) (start : Pattern) (fit : Fit b start) where
   pub few-merges : (s : State) (n : ℕ) → Lawful b start s n → n ≤ 64
   few-merges s n l =
       let e = l .counted in
-      let k = few-symbols b start fit in
+      let k = few-symbols start (fit .near) in
       omega arith
 
 -- with more rules an open spot is still open, and a run is still a run

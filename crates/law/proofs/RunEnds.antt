@@ -21,7 +21,7 @@ use Rattle.law.proofs.Ends.{ends-from}
 use Rattle.law.proofs.SameEnd.{same-end}
 
 -- merges after merges
-merges-after : (rules : List Rule) (start : Pattern) (s₀ s : State) (n : ℕ) → Merges rules start s₀ s n → {s′ : State} {m : ℕ} →
+pub merges-after : (rules : List Rule) (start : Pattern) (s₀ s : State) (n : ℕ) → Merges rules start s₀ s n → {s′ : State} {m : ℕ} →
     Merges rules start s s′ m → Merges rules start s₀ s′ (n + m)
 merges-after rules start s₀ s n first none = let k : n ≡ n + 0 = omega arith in subst (Merges rules start s₀ s) k first
 merges-after rules start s₀ s n first {s′} (more {m = m} rest step) =

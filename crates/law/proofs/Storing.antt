@@ -14,7 +14,7 @@ use Rattle.law.specs.Groups.{State, current}
 use Rattle.law.specs.Runs.{Open-spot, Merge}
 use Rattle.law.specs.Stored.{stored, replaced, Held, Small-numbers, Storing}
 use Rattle.law.proofs.Lists.{at-max}
-use Rattle.law.proofs.Shown.{Shown-by, left-shown, right-shown, merge-counts}
+use Rattle.law.proofs.Shown.{Shown-by, left-shown, right-shown, merge-counts, merges-few}
 
 -- a pass that replaces a number other than 0 is a pass over what is stored
 pass-stored : (shown : List ℕ) (one other : ℕ) → (0 ≡ one → ⊥) → (v : ℕ) → stored (replaced one other shown) v ≡ cond (eqb (stored shown v) one) other (stored shown v)
@@ -60,5 +60,6 @@ storing =
       less = λ width rules start held shown x y o l.
           merge-counts width rules start held (stored shown) (stored (replaced (max x y) (min x y) shown))
           (pass rules start shown x y o l);
+      few = λ width rules start held near s s′ m merges. merges-few width rules start held near s merges;
       small = small;
     }
