@@ -74,7 +74,7 @@ module _ (b : BookMeaning) (fits : Well-formed-book b) (t : Rule) (target-fits :
         answered = next (begun refl refl alone) no-turn;
       }
 
-  run-finishes : (s : State) (n : ℕ) (r : Run (b .rules) (doubled-rows t) s n) (clash : Bool) (v : Verdict) →
+  pub run-finishes : (s : State) (n : ℕ) (r : Run (b .rules) (doubled-rows t) s n) (clash : Bool) (v : Verdict) →
       Ended (b .rules) (doubled-rows t) (doubled-pairs t) s clash v →
       Finishes b (Going (fresh (b .width) t (r .first))) (record { verdict = v; left = Going (moved (fresh (b .width) t (r .first)) s n clash) })
   run-finishes s n r clash v e = ended refl refl (r .merges) e

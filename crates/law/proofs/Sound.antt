@@ -149,3 +149,8 @@ module _ (b : BookMeaning) (start : Pattern) (fit : Fit b start) where
   -- at rest what is forced is in one group
   pub rest-exact : (s : State) → At-rest (b .rules) start s → (e e′ : Term) → Forced b start e e′ → One-group s e e′
   rest-exact s rest e e′ all = all (current start s) (rest-model s rest) s (placed-here s)
+
+-- where the current rows keep each rule nothing is open
+pub kept-rest : (rules : List Rule) (start : Pattern) (s : State) → ((r : Rule) → r ∈ rules → Keeps (current start s) r) → At-rest rules start s
+kept-rest rules start s keeps x y o =
+    o .differ (sym (o .left-is) ∙ keeps (o .rule) (o .listed) (o .first) (o .second) (o .compared) (o .pair) (o .paired) ∙ o .right-is)
