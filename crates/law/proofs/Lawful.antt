@@ -1,13 +1,13 @@
 -- What is so in every state that merges lead to.
-use mathlib.Core.Path.{_≡_, refl, sym, ap, _∙_, subst}
+use mathlib.Core.Path.{_≡_, subst}
 use mathlib.Core.List.{List}
 use Prim.Native.Nat.{ℕ, suc, _+_, _≤_}
 use native.Mathlib.Omega.{arith}
 use Rattle.rules.specs.Rules.{_∈_, Relation, Pattern, Rule}
 use Rattle.rules.specs.Books.{BookMeaning}
 use Rattle.law.specs.Groups.{State, Alone, current, symbol-count, group-count}
-use Rattle.law.specs.Runs.{Open-spot, Merge, Clashing, At-rest, Merges, none, more, Run}
-use Rattle.law.specs.Laws.{More-rules, More-rules-still-a-run}
+use Rattle.law.specs.Runs.{Open-spot, Merge, Clashing, Merges, none, more, Run}
+use Rattle.law.specs.Laws.{More-rules-still-a-run}
 use Rattle.law.proofs.Starting.{Fit}
 use Rattle.law.proofs.Sound.{Sound, alone-sound, merge-sound}
 use Rattle.law.proofs.Shown.{Shape, alone-shape, merge-shape, merge-counts, alone-counts, few-symbols}

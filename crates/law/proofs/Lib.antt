@@ -8,6 +8,7 @@ pub mod Reading
 pub mod Verdicts
 pub mod Histories
 pub mod Kept
+pub mod Placings
 pub mod Search
 pub mod Ends
 pub mod SameEnd

@@ -1,20 +1,19 @@
 -- Runs as the histories of trials that start and finish.
-use mathlib.Core.Path.{_≡_, refl, sym, ap, _∙_, subst}
-use mathlib.Core.Bool.{Bool, false}
+use mathlib.Core.Path.{_≡_, refl, sym, subst}
+use mathlib.Core.Bool.{Bool}
 use mathlib.Core.List.{List, [], _∷_, List·Memᴰ·cases-cons}
-use mathlib.Core.Logic.{_⊎_, inl, inr}
+use mathlib.Core.Logic.{inl, inr}
 use Prim.Native.Nat.{ℕ, suc, _+_}
 use native.Mathlib.Omega.{arith}
-use Rattle.std.specs.declared.option.Option.the-variants.{Some}
-use Rattle.rules.specs.Rules.{_∈_, Pattern, Rule}
+use Rattle.rules.specs.Rules.{Pattern, Rule}
 use Rattle.rules.specs.Books.{BookMeaning, Well-formed, Well-formed-book}
 use Rattle.rules.specs.Doubled.{doubled-rows, doubled-pairs}
 use Rattle.law.specs.declared.outcome.Verdict.{Verdict}
 use Rattle.law.specs.Groups.{State, Alone}
 use Rattle.law.specs.Runs.{Merges, none, more, Run, Ended}
-use Rattle.law.specs.Calls.{Started, View, Blank, Going, fresh, moved, Start, Done, begun, Finished, Finishes, ended}
-use Rattle.law.specs.Promise.{Turn, no-turn, next, target-of, Given, History}
-use Rattle.law.specs.Laws.{Same-end, Every-run-ends, Same-run-end, Runs-end-alike}
+use Rattle.law.specs.Calls.{Going, fresh, moved, Start, Done, begun, Finishes, ended}
+use Rattle.law.specs.Promise.{Turn, no-turn, next, Given, History}
+use Rattle.law.specs.Laws.{Every-run-ends, Same-run-end, Runs-end-alike}
 use Rattle.law.proofs.Starting.{starts-fit}
 use Rattle.law.proofs.Lawful.{run-lawful}
 use Rattle.law.proofs.Ends.{ends-from}

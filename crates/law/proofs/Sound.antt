@@ -1,9 +1,9 @@
 -- What is merged is forced, and at rest nothing else is.
-use mathlib.Core.Path.{_≡_, refl, sym, ap, _∙_, subst}
+use mathlib.Core.Path.{_≡_, refl, sym, ap, _∙_}
 use mathlib.Core.Bool.{cond}
 use mathlib.Core.List.{List, map, map-map, Memᴰ·cast, Memᴰ·map, Memᴰ·of-map}
-use mathlib.Core.Logic.{_↔_, _⊎_, inl, inr}
-use Prim.Native.Nat.{ℕ, suc, _+_, _-_, _<_, _≤_, min, max}
+use mathlib.Core.Logic.{inl, inr}
+use Prim.Native.Nat.{ℕ, _+_, _-_, _<_, _≤_, min, max}
 use native.Mathlib.Omega.{arith}
 use lib.Dec.{eqb, ltb}
 use lib.ListN.{length, length-map}
@@ -12,7 +12,7 @@ use Rattle.rules.specs.declared.term.Term.{Term}
 use Rattle.rules.specs.declared.term.Term.the-variants.{Constant, Variable}
 use Rattle.rules.specs.declared.term.Kind.{Kind}
 use Rattle.rules.specs.declared.term.Kind.the-variants.{Functional, Equality}
-use Rattle.rules.specs.Rules.{_∈_, Relation, Pattern, Valuation, at, Places, Rule, Agree, Compares, Keeps}
+use Rattle.rules.specs.Rules.{_∈_, Relation, Pattern, Valuation, at, Places, Rule, Agree, Keeps}
 use Rattle.rules.specs.Books.{BookMeaning, base, Small, Stands}
 use Rattle.rules.proofs.Members.{map-on}
 use Rattle.law.specs.Implied.{Model}

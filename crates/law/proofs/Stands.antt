@@ -1,7 +1,7 @@
 -- Each call keeps the promise.
-use mathlib.Core.Path.{_≡_, refl, sym, ap, _∙_, subst}
+use mathlib.Core.Path.{_≡_, refl, sym, ap, subst}
 use mathlib.Core.List.{List, [], _∷_, _++_}
-use Prim.Native.Nat.{ℕ, suc}
+use Prim.Native.Nat.{ℕ}
 use native.Mathlib.Omega.{arith}
 use lib.ListN.{length, length-append}
 use Rattle.rules.specs.Books.{BookMeaning, Well-formed-book}
@@ -9,7 +9,7 @@ use Rattle.law.specs.declared.outcome.Stop.the-variants.{Rest, Clash}
 use Rattle.law.specs.declared.outcome.Verdict.the-variants.{Follows, Fails}
 use Rattle.law.specs.Runs.{Reached, clash-met, pairs-met, pairs-apart}
 use Rattle.law.specs.Calls.{Started, View, Blank, Going, Call, Answer, Made, Advances, stopped, rests, clashes, Finished, Finishes, clashed-before, ended}
-use Rattle.law.specs.Promise.{Turn, Unfinished, Finished-by, last-view, Targets-fit, Given, Leads-to}
+use Rattle.law.specs.Promise.{Turn, Unfinished, Finished-by, Targets-fit, Leads-to}
 use Rattle.law.specs.Standing.{Call-promised, Finish-promised, turns-of, Replay-promised, Every-call-promised, Every-finish-promised}
 use Rattle.law.proofs.Histories.{history-more, history-added, history-none}
 use Rattle.law.proofs.Kept.{kept}

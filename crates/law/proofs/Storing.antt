@@ -2,15 +2,14 @@
 use mathlib.Core.Path.{_≡_, refl, sym, ap, _∙_, subst}
 use mathlib.Core.Bool.{cond}
 use mathlib.Core.List.{List, [], _∷_, map, List·Memᴰ·head, List·Memᴰ·tail, Memᴰ·of-map}
-use mathlib.Core.Logic.{_⊎_, inl, inr}
 use Prim.Native.Nat.{ℕ, zero, suc, _+_, _<_, _≤_, min, max}
 use native.Mathlib.Omega.{arith}
 use lib.Dec.{eqb}
-use lib.ListN.{length, getD, List·getD-map}
+use lib.ListN.{getD, List·getD-map}
 use Rattle.std.proofs.shelf.Tests.{cond-false, cond-both, ne-eqb}
 use Rattle.rules.specs.Rules.{_∈_, Pattern, Rule}
-use Rattle.rules.specs.Books.{base, Stands}
-use Rattle.law.specs.Groups.{State, current}
+use Rattle.rules.specs.Books.{base}
+use Rattle.law.specs.Groups.{current}
 use Rattle.law.specs.Runs.{Open-spot, Merge}
 use Rattle.law.specs.Stored.{stored, replaced, Held, Small-numbers, Storing}
 use Rattle.law.proofs.Lists.{at-max}

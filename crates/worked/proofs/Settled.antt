@@ -3,7 +3,7 @@ use mathlib.Core.Path.{_≡_, refl, sym, ap, ap₂, _∙_, subst}
 use mathlib.Core.Bool.{Bool, true, false, cond, _&&_}
 use mathlib.Core.List.{List, [], _∷_, List·Memᴰ·head, List·Memᴰ·tail, List·Memᴰ·cases-cons}
 use mathlib.Core.Logic.{_⊎_, inl, inr}
-use Prim.Native.Nat.{ℕ, zero, suc, _+_, _<_, _≤_, max}
+use Prim.Native.Nat.{ℕ, zero, suc, max}
 use native.Mathlib.Omega.{arith}
 use lib.Dec.{eqb, ltb}
 use Rattle.std.proofs.shelf.Tests.{ltb-true, ltb-false, eq-eqb, eqb-true, false≢true, and-parts, and-from}
@@ -13,7 +13,7 @@ use Rattle.rules.specs.Books.{BookMeaning, base}
 use Rattle.law.specs.declared.outcome.Verdict.{Verdict}
 use Rattle.law.specs.declared.outcome.Verdict.the-variants.{Follows, Fails}
 use Rattle.law.specs.Groups.{State, current}
-use Rattle.law.specs.Runs.{Merges, none, more, Run, Reached, Ended, clash-met, pairs-met, pairs-apart}
+use Rattle.law.specs.Runs.{Merges, more, Reached, Ended, clash-met, pairs-met, pairs-apart}
 use Rattle.law.specs.Calls.{Started, Going, rows-told}
 use Rattle.law.proofs.Starting.{Fit}
 use Rattle.law.proofs.Search.{Found, nothing, spot, find-spot}

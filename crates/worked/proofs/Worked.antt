@@ -1,13 +1,13 @@
 -- Every case works.
-use mathlib.Core.Path.{_≡_, refl, sym, ap, ap₂, _∙_, subst}
+use mathlib.Core.Path.{_≡_, refl, sym, ap, _∙_, subst}
 use mathlib.Core.Bool.{Bool, true, false}
 use mathlib.Core.List.{List, [], _∷_, map, List·Memᴰ·cases-cons}
-use mathlib.Core.Logic.{_⊎_, inl, inr}
+use mathlib.Core.Logic.{inl, inr}
 use Prim.Native.Nat.{ℕ, _+_}
 use native.Mathlib.Omega.{arith}
 use Rattle.std.specs.declared.option.Option.{Option}
 use Rattle.std.specs.declared.option.Option.the-variants.{Some, None}
-use Rattle.rules.specs.Rules.{_∈_, Relation, Rule}
+use Rattle.rules.specs.Rules.{_∈_, Rule}
 use Rattle.rules.specs.Books.{BookMeaning, base, Well-formed, Well-formed-book}
 use Rattle.rules.specs.Doubled.{doubled-rows, doubled-pairs}
 use Rattle.law.specs.declared.outcome.Verdict.{Verdict}
@@ -23,7 +23,7 @@ use Rattle.law.proofs.RunEnds.{runs-alike, started, started-history, run-finish
 use Rattle.law.proofs.Histories.{history-sane}
 use Rattle.law.proofs.Kept.{Known-end, at-blank, at-told, known-end}
 use Rattle.law.proofs.Due.{ended-rests}
-use Rattle.worked.specs.Cases.{Case, one-press-weight, dock-weight-open, weights-that-agree, agreement-gives-no-key, two-constants-for-one, two-cycle, one-loop, chained-keys, cases}
+use Rattle.worked.specs.Cases.{Case, one-press-weight, dock-weight-open, weights-that-agree, agreement-gives-no-key, two-constants-for-one, two-cycle, one-loop, chained-keys}
 use Rattle.worked.specs.Works.{Ends-so, at-rest, merges-left, As-told, Works, Every-case-works}
 use Rattle.worked.proofs.Fits.{fits-test, fits-right, book-test, book-right}
 use Rattle.worked.proofs.Settled.{gives, settle, Result, settled}

@@ -12,7 +12,7 @@ use Rattle.law.specs.declared.outcome.Verdict.{Verdict}
 use Rattle.law.specs.declared.outcome.Verdict.the-variants.{Fails}
 use Rattle.law.specs.Groups.{State, current}
 use Rattle.law.specs.Runs.{Run, Ended}
-use Rattle.law.specs.Calls.{View, Blank, Going, Start, Advance, Answer, Done, Finished, Finishes, finished-rows}
+use Rattle.law.specs.Calls.{View, Blank, Going, Start, Advance, Done, Finished, Finishes, finished-rows}
 use Rattle.law.specs.Promise.{Turn, last-view, target-of, History}
 use Rattle.worked.specs.Cases.{Case, cases}
 
