@@ -17,3 +17,4 @@ pub mod RunEnds
 pub mod Due
 pub mod Stands
 pub mod Unmoved
+pub mod Deciding
