@@ -2,3 +2,4 @@ pub mod Rules
 pub mod Books
 pub mod Laws
 pub mod Doubled
+pub mod Loaded

@@ -1,5 +1,8 @@
 // What rules mean, and the one trait through which all code asks a book of them.
 pub mod book;
+pub mod doubling;
 pub mod laws;
+pub mod load;
+pub mod loaded;
 pub mod refusal;
 pub mod term;
