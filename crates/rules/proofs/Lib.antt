@@ -1,5 +1,5 @@
-mod Members
-mod Doubles
+pub mod Members
+pub mod Doubles
 mod Reading
 pub mod Fills
 pub mod Codes

@@ -1,0 +1,9 @@
+mod Valuations
+mod Entries
+mod Plans
+mod Picked
+mod Walks
+mod Tabled
+mod Groups
+mod Columns
+mod Orders
