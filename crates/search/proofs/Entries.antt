@@ -1,14 +1,15 @@
 -- What a relation answers, and what stands past its end.
-use mathlib.Core.Path.{_≡_, refl, sym, ap, _∙_}
+use mathlib.Core.Path.{_≡_, refl, sym, ap, subst, _∙_}
 use mathlib.Core.List.{List, [], _∷_}
 use mathlib.Core.Logic.{_⊎_, inl, inr}
 use Prim.Native.Nat.{ℕ, zero, suc, _<_, _≤_}
 use native.Mathlib.Omega.{arith}
-use lib.ListN.{length, getD}
+use lib.ListN.{length, getD, replicate}
 use Rattle.std.specs.shelf.Maps.{nth}
 use Rattle.std.specs.declared.option.Option.the-variants.{Some, None}
 use Rattle.std.proofs.shelf.Counted.{length-map-counting, getD-map-counting}
-use Rattle.std.proofs.shelf.Lists.{length-map, getD-map}
+use Rattle.std.proofs.shelf.Lists.{length-map, length-replicate, getD-map, getD-past, getD-replicate}
+use Rattle.std.proofs.shelf.Tests.{cases-lt}
 use Rattle.std.proofs.shelf.Maps.{nth-getD, nth-past}
 use Rattle.rules.proofs.Nths.{some-same, some-none, nth-member}
 use Rattle.rules.specs.Books.{within}
@@ -65,3 +66,10 @@ module _ (width : ℕ) (rows : List Row) where
   cut-wide k j h l =
       let long = length-map-counting (λ j. getD (getD rows k no-row .entries) j 0) 0 width in
       sym (ap (λ o. within o (λ row. nth row j)) (cut-row k h) ∙ nth-past (front width (getD rows k no-row)) j (omega arith))
+
+pub zeros : (n k : ℕ) → _≡_ {A = ℕ} (getD (replicate n 0) k 0) 0
+zeros n k = go (cases-lt k n)
+  where
+    go : (k < n) ⊎ (n ≤ k) → _≡_ {A = ℕ} (getD (replicate n 0) k 0) 0
+    go (inl h) = getD-replicate n k 0 0 h
+    go (inr h) = getD-past (replicate n 0) k 0 (subst (λ x. x ≤ k) (sym (length-replicate n 0)) h)

@@ -155,4 +155,3 @@ module _ (rel : List (List ℕ)) (rule : LoadedRule) (plan : Plan) where
         subst (Went rel rule plan s u) (row-step row (choices d rule (depth + 1))) (went-on s t u (row * choices d rule (depth + 1)) (choices d rule (depth + 1)) went more),
         below-more _ _ (λ m h. grow-tried t u depth p (chosen d m) (more .grows) (tried m h)) (subst (λ x. With rel rule depth p x (Covered rel rule plan u)) is (tried-next rel rule plan origins depth k p long within (Covered rel rule plan u) covers)),
       )
-

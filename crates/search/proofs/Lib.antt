@@ -7,3 +7,6 @@ mod Tabled
 mod Groups
 mod Columns
 mod Orders
+mod Sounds
+mod Breaks
+pub mod Rounds

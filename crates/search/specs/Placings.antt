@@ -257,8 +257,14 @@ Same-row rule i other j = (c : ℕ) → c < rule .width → codeAt other j c ≡
 
 abbrev pub arranged : LoadedRule → List CodeRow → LoadedRule
 arranged rule rows = record {
-  kind = rule .kind; width = rule .width; rows = rows; «row_count» = rule .«row_count»;
-  left = rule .left; «left_count» = rule .«left_count»; pairs = rule .pairs; «pair_count» = rule .«pair_count»;
+  kind = rule .kind;
+  width = rule .width;
+  rows = rows;
+  «row_count» = rule .«row_count»;
+  left = rule .left;
+  «left_count» = rule .«left_count»;
+  pairs = rule .pairs;
+  «pair_count» = rule .«pair_count»;
 }
 
 abbrev pub Somewhere : LoadedRule → LoadedRule → ℕ → Type 0

@@ -41,9 +41,13 @@ pub record Break (rel : Relation) (r : Rule) (s : Spot) : Type 0 where
   pub on-second : at g (sides .1) ≡ s .other
   pub differ : s .one ≡ s .other → ⊥
 
--- what a look at one rule says
-abbrev pub Looked : Relation → Rule → Option Spot → Type 0
-Looked rel r o = BySome o (Keeps rel r) (Break rel r)
+-- what a look at a rule of this number says
+abbrev pub Looked : Relation → Rule → ℕ → Option Spot → Type 0
+Looked rel r i o = BySome o (Keeps rel r) (λ s. Break rel r s × (s .rule ≡ i))
+
+-- the rule of this number, if there is one
+abbrev pub Looked-at : Relation → List Rule → ℕ → Option Spot → Type 0
+Looked-at rel rules i o = (r : Rule) → nth rules i ≡ Some r → Looked rel r i o
 
 -- the rule of turn t, where the first to look at is rule `first`, going round past the last of n
 abbrev pub turned : ℕ → ℕ → ℕ → ℕ

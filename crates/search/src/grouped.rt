@@ -6,7 +6,6 @@ ghost use lib.ListN.{length};
 ghost use Rattle.std.specs.Options.{Cases as BySome};
 ghost use Rattle.search.specs.Placings.{filled, place, Groupable, Planned, Bounded, Fitting, Picks, choices as ways, Lands, Landed, All-agree};
 ghost use Rattle.search.specs.Seens.{Covers, Fine, Parting-at, Went};
-use rules::loaded::LoadedRule;
 use crate::bounds::bound_of;
 use crate::cell::cell;
 use crate::choices::Choices;
@@ -22,9 +21,16 @@ use crate::seen::clear;
 use crate::seen::is_covered;
 use crate::seen::read;
 use crate::seen::settle;
+use rules::loaded::LoadedRule;
 
 // Whether the placing sends row `depth` of the pattern to its place.
-fn fits<R: Relation>(relation: &R, rule: &LoadedRule, plan: &Plan, placing: &Placing, depth: usize) -> bool
+fn fits<R: Relation>(
+    relation: &R,
+    rule: &LoadedRule,
+    plan: &Plan,
+    placing: &Placing,
+    depth: usize,
+) -> bool
     requires groupable { ⌜ Groupable (now rule) ⌝ }
     requires plan { ⌜ Planned (now rule) (now plan) ⌝ }
     requires depth { ⌜ depth < now rule .«row_count» ⌝ }
@@ -35,7 +41,13 @@ fn fits<R: Relation>(relation: &R, rule: &LoadedRule, plan: &Plan, placing: &Pla
 {
     for t in 0..plan.tests[depth].count {
         let column = plan.tests[depth].columns[t];
-        let number = read(relation, rule, plan, placing, rule.rows[depth].codes[column]);
+        let number = read(
+            relation,
+            rule,
+            plan,
+            placing,
+            rule.rows[depth].codes[column],
+        );
         if number != cell(relation, placing.rows[depth] as usize, column) {
             return false;
         }
@@ -86,7 +98,17 @@ fn extend<R: Relation>(
         next.rows[depth] = row_at(choices, m) as u8;
         *tests = tests.wrapping_add(1);
         if fits(relation, rule, plan, &next, depth) {
-            if let Some(parting) = extend(relation, rule, plan, choices, bound, depth + 1, next, seen, tests) {
+            if let Some(parting) = extend(
+                relation,
+                rule,
+                plan,
+                choices,
+                bound,
+                depth + 1,
+                next,
+                seen,
+                tests,
+            ) {
                 return Some(parting);
             }
             if is_last(bound, depth, rule.row_count) {
@@ -119,5 +141,15 @@ pub(crate) fn find_parting<R: Relation>(
     }
     clear(seen);
     let bound = bound_of(rule);
-    extend(relation, rule, &plan, choices, bound, 0, Placing { rows: [0; 4] }, seen, tests)
+    extend(
+        relation,
+        rule,
+        &plan,
+        choices,
+        bound,
+        0,
+        Placing { rows: [0; 4] },
+        seen,
+        tests,
+    )
 }

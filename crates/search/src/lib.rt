@@ -2,6 +2,7 @@
 mod bounds;
 mod cell;
 mod choices;
+pub mod find;
 mod grouped;
 mod order;
 mod plan;

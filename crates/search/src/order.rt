@@ -7,14 +7,14 @@ ghost use lib.ListN.{length, getD};
 ghost use Rattle.std.specs.Options.{Cases as BySome};
 ghost use Rattle.search.specs.Placings.{Groupable, Same-row, Somewhere, Rearranges, Puts-back, Picks, All-agree};
 ghost use Rattle.search.specs.Seens.{Parting-at};
-use rules::loaded::CodeRow;
-use rules::loaded::LoadedRule;
 use crate::choices::Choices;
 use crate::grouped::find_parting;
 use crate::relation::Relation;
 use crate::seen::Parting;
 use crate::seen::Placing;
 use crate::seen::Seen;
+use rules::loaded::CodeRow;
+use rules::loaded::LoadedRule;
 
 // Rows, and where each row of the rule stands among them.
 #[derive(Clone, Copy)]

@@ -5,10 +5,10 @@ ghost use Prim.Native.Nat.{ℕ, _<_, _≤_};
 ghost use lib.ListN.{length};
 ghost use Rattle.rules.specs.Loaded.{codeAt};
 ghost use Rattle.search.specs.Placings.{Sound, Planned, One-value, Unlike, All-agree};
-use rules::loaded::LoadedRule;
 use crate::cell::cell;
 use crate::plan::Plan;
 use crate::relation::Relation;
+use rules::loaded::LoadedRule;
 
 // Whether a constant of row `i` of the pattern is missed by the row.
 fn unlike<R: Relation>(relation: &R, rule: &LoadedRule, i: usize, row: usize) -> bool
@@ -60,7 +60,10 @@ pub(crate) fn is_quiet<R: Relation>(relation: &R, rule: &LoadedRule, plan: &Plan
         let code = rule.pairs[r].one;
         if code >= 16777216 {
             let slot = plan.origin[(code - 16777216) as usize];
-            if slot.row >= rule.row_count || slot.column >= rule.width || rule.rows[slot.row].codes[slot.column] != code {
+            if slot.row >= rule.row_count
+                || slot.column >= rule.width
+                || rule.rows[slot.row].codes[slot.column] != code
+            {
                 return false;
             }
             if !one_value(relation, rule, slot.row, slot.column) {

@@ -6,11 +6,11 @@ ghost use lib.ListN.{length, getD};
 ghost use Rattle.std.specs.Options.{Cases as BySome};
 ghost use Rattle.search.specs.Placings.{value, filled, Groupable, Rows-fit, Landed, Same-left, Same-right, Parts};
 ghost use Rattle.search.specs.Seens.{bucket, Covered, Fine, mix, New, Old, Parting-at, Went};
-use rules::loaded::LoadedRule;
 use crate::cell::cell;
 use crate::plan::Plan;
 use crate::relation::Relation;
 use crate::walk::Difference;
+use rules::loaded::LoadedRule;
 
 // For each row of a pattern a row of the relation.
 #[derive(Clone, Copy)]
@@ -48,7 +48,13 @@ impl Seen {
 }
 
 // The number that the placing gives the code.
-pub(crate) fn read<R: Relation>(relation: &R, rule: &LoadedRule, plan: &Plan, placing: &Placing, code: u32) -> u32
+pub(crate) fn read<R: Relation>(
+    relation: &R,
+    rule: &LoadedRule,
+    plan: &Plan,
+    placing: &Placing,
+    code: u32,
+) -> u32
     requires groupable { ⌜ Groupable (now rule) ⌝ }
     requires code { ⌜ code < 16777280 ⌝ }
     requires rows { ⌜ Rows-fit (now rule) (now plan) ⌝ }
@@ -63,7 +69,13 @@ pub(crate) fn read<R: Relation>(relation: &R, rule: &LoadedRule, plan: &Plan, pl
 }
 
 // Whether the two placings agree on the left.
-fn same_left<R: Relation>(relation: &R, rule: &LoadedRule, plan: &Plan, a: &Placing, b: &Placing) -> bool
+fn same_left<R: Relation>(
+    relation: &R,
+    rule: &LoadedRule,
+    plan: &Plan,
+    a: &Placing,
+    b: &Placing,
+) -> bool
     requires groupable { ⌜ Groupable (now rule) ⌝ }
     requires plan { ⌜ Rows-fit (now rule) (now plan) ⌝ }
     ensures yes { λ r. ⌜ (r ≡ true → Same-left (now (rule .entry)) (filled (meaning (now (relation .entry)) .rows) (now (plan .entry)) (now (a .entry) .rows)) (filled (meaning (now (relation .entry)) .rows) (now (plan .entry)) (now (b .entry) .rows))) ⌝ }
@@ -79,7 +91,13 @@ fn same_left<R: Relation>(relation: &R, rule: &LoadedRule, plan: &Plan, a: &Plac
 }
 
 // A right variable to which the two placings give two numbers.
-fn parted<R: Relation>(relation: &R, rule: &LoadedRule, plan: &Plan, a: &Placing, b: &Placing) -> Option<Difference>
+fn parted<R: Relation>(
+    relation: &R,
+    rule: &LoadedRule,
+    plan: &Plan,
+    a: &Placing,
+    b: &Placing,
+) -> Option<Difference>
     requires groupable { ⌜ Groupable (now rule) ⌝ }
     requires plan { ⌜ Rows-fit (now rule) (now plan) ⌝ }
     ensures { λ r. ⌜ BySome r (Same-right (now (rule .entry)) (filled (meaning (now (relation .entry)) .rows) (now (plan .entry)) (now (a .entry) .rows)) (filled (meaning (now (relation .entry)) .rows) (now (plan .entry)) (now (b .entry) .rows))) (λ d. Parts (now (rule .entry)) (filled (meaning (now (relation .entry)) .rows) (now (plan .entry)) (now (a .entry) .rows)) (filled (meaning (now (relation .entry)) .rows) (now (plan .entry)) (now (b .entry) .rows)) (d .pair) (d .one) (d .other)) ⌝ }
@@ -97,7 +115,8 @@ fn parted<R: Relation>(relation: &R, rule: &LoadedRule, plan: &Plan, a: &Placing
 fn mixed(hash: u64, number: u32) -> u64
     ensures { λ r. ⌜ r ≡ mix hash number ⌝ }
 {
-    hash.wrapping_add(number as u64).wrapping_mul(11400714819323198485)
+    hash.wrapping_add(number as u64)
+        .wrapping_mul(11400714819323198485)
 }
 
 // The bucket of the placing, by its left numbers.
@@ -109,13 +128,29 @@ fn bucket_of<R: Relation>(relation: &R, rule: &LoadedRule, plan: &Plan, placing:
 {
     let mut hash: u64 = 0;
     for l in 0..rule.left_count {
-        hash = mixed(hash, read(relation, rule, plan, placing, 16777216 + rule.left[l] as u32));
+        hash = mixed(
+            hash,
+            read(
+                relation,
+                rule,
+                plan,
+                placing,
+                16777216 + rule.left[l] as u32,
+            ),
+        );
     }
     (hash >> 54) as usize
 }
 
 // The placing of the table that agrees with this one on the left.
-fn look_up<R: Relation>(relation: &R, rule: &LoadedRule, plan: &Plan, seen: &Seen, placing: &Placing, home: usize) -> Option<usize>
+fn look_up<R: Relation>(
+    relation: &R,
+    rule: &LoadedRule,
+    plan: &Plan,
+    seen: &Seen,
+    placing: &Placing,
+    home: usize,
+) -> Option<usize>
     requires groupable { ⌜ Groupable (now rule) ⌝ }
     requires plan { ⌜ Rows-fit (now rule) (now plan) ⌝ }
     requires fine { ⌜ Fine (meaning (now relation) .rows) (now rule) (now plan) (now seen) ⌝ }
@@ -135,7 +170,14 @@ fn look_up<R: Relation>(relation: &R, rule: &LoadedRule, plan: &Plan, seen: &See
 }
 
 // Adds a placing.
-fn add<R: Relation>(relation: &R, rule: &LoadedRule, plan: &Plan, seen: &mut Seen, placing: &Placing, home: usize)
+fn add<R: Relation>(
+    relation: &R,
+    rule: &LoadedRule,
+    plan: &Plan,
+    seen: &mut Seen,
+    placing: &Placing,
+    home: usize,
+)
     requires fine { ⌜ Fine (meaning (now relation) .rows) (now rule) (now plan) (now seen) ⌝ }
     requires room { ⌜ now seen .used < 4096 ⌝ }
     requires lands { ⌜ Landed (meaning (now relation) .rows) (now rule) (now plan) (now placing .rows) (now rule .«row_count») ⌝ }
@@ -199,7 +241,13 @@ pub(crate) fn settle<R: Relation>(
 }
 
 // Whether a placing of the table has the left and the right numbers of this one.
-pub(crate) fn is_covered<R: Relation>(relation: &R, rule: &LoadedRule, plan: &Plan, placing: &Placing, seen: &Seen) -> bool
+pub(crate) fn is_covered<R: Relation>(
+    relation: &R,
+    rule: &LoadedRule,
+    plan: &Plan,
+    placing: &Placing,
+    seen: &Seen,
+) -> bool
     requires groupable { ⌜ Groupable (now rule) ⌝ }
     requires plan { ⌜ Rows-fit (now rule) (now plan) ⌝ }
     requires fine { ⌜ Fine (meaning (now relation) .rows) (now rule) (now plan) (now seen) ⌝ }

@@ -6,13 +6,13 @@ ghost use Prim.Native.Nat.{ℕ, _+_, _-_, _<_, _≤_};
 ghost use lib.ListN.{length, getD};
 ghost use Rattle.std.specs.Options.{Cases as BySome};
 ghost use Rattle.search.specs.Placings.{value, filled, place, Sound, Rows-fit, Planned, Fitting, Picks, Lands, Landed, From, Joins, Splits, All-join, Split-at};
-use rules::loaded::LoadedRule;
 use crate::cell::cell;
 use crate::choices::Choices;
 use crate::choices::row_at;
 use crate::plan::Plan;
 use crate::plan::plan_of;
 use crate::relation::Relation;
+use rules::loaded::LoadedRule;
 
 // A pair, with the two numbers of its codes.
 #[derive(Clone, Copy)]
@@ -36,7 +36,13 @@ pub struct Split {
 }
 
 // The number that the placing gives the code.
-fn number_of<R: Relation>(relation: &R, rule: &LoadedRule, plan: &Plan, places: &Places, code: u32) -> u32
+fn number_of<R: Relation>(
+    relation: &R,
+    rule: &LoadedRule,
+    plan: &Plan,
+    places: &Places,
+    code: u32,
+) -> u32
     requires sound { ⌜ Sound (now rule) ⌝ }
     requires code { ⌜ code < 16777280 ⌝ }
     requires rows { ⌜ Rows-fit (now rule) (now plan) ⌝ }
@@ -51,7 +57,13 @@ fn number_of<R: Relation>(relation: &R, rule: &LoadedRule, plan: &Plan, places: 
 }
 
 // Whether the placing sends row `depth` of the pattern to its place.
-fn lands<R: Relation>(relation: &R, rule: &LoadedRule, plan: &Plan, places: &Places, depth: usize) -> bool
+fn lands<R: Relation>(
+    relation: &R,
+    rule: &LoadedRule,
+    plan: &Plan,
+    places: &Places,
+    depth: usize,
+) -> bool
     requires sound { ⌜ Sound (now rule) ⌝ }
     requires plan { ⌜ Planned (now rule) (now plan) ⌝ }
     requires depth { ⌜ depth < now rule .«row_count» ⌝ }
@@ -71,7 +83,12 @@ fn lands<R: Relation>(relation: &R, rule: &LoadedRule, plan: &Plan, places: &Pla
 }
 
 // A pair whose codes have two numbers.
-fn split_pair<R: Relation>(relation: &R, rule: &LoadedRule, plan: &Plan, places: &Places) -> Option<Difference>
+fn split_pair<R: Relation>(
+    relation: &R,
+    rule: &LoadedRule,
+    plan: &Plan,
+    places: &Places,
+) -> Option<Difference>
     requires sound { ⌜ Sound (now rule) ⌝ }
     requires rows { ⌜ Rows-fit (now rule) (now plan) ⌝ }
     ensures { λ r. ⌜ BySome r (Joins (now (rule .entry)) (filled (meaning (now (relation .entry)) .rows) (now (plan .entry)) (now (places .entry) .rows))) (λ d. Splits (now (rule .entry)) (filled (meaning (now (relation .entry)) .rows) (now (plan .entry)) (now (places .entry) .rows)) (d .pair) (d .one) (d .other)) ⌝ }
@@ -124,7 +141,12 @@ fn walk_from<R: Relation>(
 }
 
 // A placing of the rule's pattern that splits one of its pairs, or none if each placing joins them all.
-pub(crate) fn find_split<R: Relation>(relation: &R, rule: &LoadedRule, choices: &Choices, tests: &mut u64) -> Option<Split>
+pub(crate) fn find_split<R: Relation>(
+    relation: &R,
+    rule: &LoadedRule,
+    choices: &Choices,
+    tests: &mut u64,
+) -> Option<Split>
     requires sound { ⌜ Sound (now rule) ⌝ }
     requires picks { ⌜ Picks (meaning (now relation) .rows) (now choices) (length (meaning (now relation) .rows)) ⌝ }
     ensures { λ r. ⌜ BySome r (All-join (meaning (now (relation .entry)) .rows) (now (rule .entry))) (λ s. Split-at (meaning (now (relation .entry)) .rows) (now (rule .entry)) (s .places .rows) (s .difference .pair) (s .difference .one) (s .difference .other)) ⌝ }
@@ -133,5 +155,13 @@ pub(crate) fn find_split<R: Relation>(relation: &R, rule: &LoadedRule, choices: 
         return None;
     }
     let plan = plan_of(rule);
-    walk_from(relation, rule, &plan, choices, 0, Places { rows: [0; 8] }, tests)
+    walk_from(
+        relation,
+        rule,
+        &plan,
+        choices,
+        0,
+        Places { rows: [0; 8] },
+        tests,
+    )
 }

@@ -15,6 +15,6 @@ pub loop-row-again : need.loop-row-again
 loop-row-again g c =
     let rel = g .R·Relation .meaning (c .args .relation .now) .rows in
     elim (c .if-not-is-picked .came) [
-      then-not-is-picked w ↦ subst (λ x. (length (x .rows) ≡ 8) × (x .all ≡ false) × Picks rel x (c .loop-row .row + 1)) (sym (w .choices-is)) (simp length-set (c .loop-row .inv .0), c .loop-row .inv .1, picks-new rel (c .loop-row .choices) (c .loop-row .row) (c .loop-row .inv .0) (c .loop-row .inv .1) (omega arith) (omega arith) (c .loop-row .inv .2))
-    | else-not-is-picked w ↦ subst (λ x. (length (x .rows) ≡ 8) × (x .all ≡ false) × Picks rel x (c .loop-row .row + 1)) (sym (w .choices-is)) (c .loop-row .inv .0, c .loop-row .inv .1, picks-skip rel (c .loop-row .choices) (c .loop-row .row) (c .loop-row .inv .2) (c .is-picked .ensures (w .if-not-is-picked .left)))
+      | then-not-is-picked w ↦ subst (λ x. (length (x .rows) ≡ 8) × (x .all ≡ false) × Picks rel x (c .loop-row .row + 1)) (sym (w .choices-is)) (simp length-set (c .loop-row .inv .0), c .loop-row .inv .1, picks-new rel (c .loop-row .choices) (c .loop-row .row) (c .loop-row .inv .0) (c .loop-row .inv .1) (omega arith) (omega arith) (c .loop-row .inv .2))
+      | else-not-is-picked w ↦ subst (λ x. (length (x .rows) ≡ 8) × (x .all ≡ false) × Picks rel x (c .loop-row .row + 1)) (sym (w .choices-is)) (c .loop-row .inv .0, c .loop-row .inv .1, picks-skip rel (c .loop-row .choices) (c .loop-row .row) (c .loop-row .inv .2) (c .is-picked .ensures (w .if-not-is-picked .left)))
     ]

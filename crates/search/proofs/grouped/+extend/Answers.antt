@@ -30,11 +30,40 @@ loop-m-holds g t c = turn-none _ _ _ (c .args .choices .now) _ _ (c .args .placi
 
 pub extend-requires : need.extend-requires
 extend-requires g t c κs within =
-    let long : length (c .args .placing .rows) ≡ 4 = search needs in
-    (search needs, (search needs, (search needs, (search needs, (search needs, (search needs, (search needs, (search needs, (search needs, (search needs, (
-      turn-room (g .R·Relation .meaning (c .args .relation .now) .rows) (c .args .rule .now) (c .args .plan .now) (c .args .choices .now) (c .args .seen .now) _ _ _ (c .args .placing .rows) (omega arith) (omega arith) (c .loop-m .inv) (c .pre .room),
-      landed-more _ _ (c .args .plan .now) (c .pre .plan .origins) _ _ (c .args .placing .rows) (omega (arith, c .pre .groupable .few)) (omega arith) (c .pre .lands) (c .if-fits .ensures tt .yes refl)
-    )))))))))))
+    let long : length (c .args .placing .rows) ≡ 4 = search needs in (
+      search needs,
+      (
+        search needs,
+        (
+          search needs,
+          (
+            search needs,
+            (
+              search needs,
+              (
+                search needs,
+                (
+                  search needs,
+                  (
+                    search needs,
+                    (
+                      search needs,
+                      (
+                        search needs,
+                        (
+                          turn-room (g .R·Relation .meaning (c .args .relation .now) .rows) (c .args .rule .now) (c .args .plan .now) (c .args .choices .now) (c .args .seen .now) _ _ _ (c .args .placing .rows) (omega arith) (omega arith) (c .loop-m .inv) (c .pre .room),
+                          landed-more _ _ (c .args .plan .now) (c .pre .plan .origins) _ _ (c .args .placing .rows) (omega (arith, c .pre .groupable .few)) (omega arith) (c .pre .lands) (c .if-fits .ensures tt .yes refl),
+                        ),
+                      ),
+                    ),
+                  ),
+                ),
+              ),
+            ),
+          ),
+        ),
+      ),
+    )
 
 pub loop-m-again : need.loop-m-again
 loop-m-again g t c =
@@ -44,8 +73,8 @@ loop-m-again g t c =
     let placing = c .args .placing .rows in
     let long : length placing ≡ 4 = search needs in
     elim (c .if-fits .came) [
-      then-fits·in-rest·else-is-last w ↦ subst (λ x. Turn rel rule plan (c .args .choices .now) (c .args .seen .now) x (c .args .depth) placing (c .loop-m .m + 1)) (sym (w .seen-is)) (turn-next rel rule plan (c .args .choices .now) (c .pre .plan .origins) (c .args .seen .now) (c .loop-m .seen) (c .args .depth) (c .loop-m .m) (c .row-at .result) placing (c .row-at .ensures) (omega (arith, c .pre .groupable .few)) (omega arith) _ (c .loop-m .inv) (w .in-rest .ensures tt))
-    | else-fits w ↦ subst (λ x. Turn rel rule plan (c .args .choices .now) (c .args .seen .now) x (c .args .depth) placing (c .loop-m .m + 1)) (sym (w .seen-is)) (turn-clash rel rule plan (c .args .choices .now) (c .pre .plan .origins) (c .args .seen .now) (c .loop-m .seen) (c .args .depth) (c .loop-m .m) (c .row-at .result) placing (c .row-at .ensures) (omega (arith, c .pre .groupable .few)) (omega arith) (c .loop-m .inv) (λ lands. both-ways _ (w .if-fits .left) (c .fits-in-loop-m .ensures .no lands)))
+      | then-fits·in-rest·else-is-last w ↦ subst (λ x. Turn rel rule plan (c .args .choices .now) (c .args .seen .now) x (c .args .depth) placing (c .loop-m .m + 1)) (sym (w .seen-is)) (turn-next rel rule plan (c .args .choices .now) (c .pre .plan .origins) (c .args .seen .now) (c .loop-m .seen) (c .args .depth) (c .loop-m .m) (c .row-at .result) placing (c .row-at .ensures) (omega (arith, c .pre .groupable .few)) (omega arith) _ (c .loop-m .inv) (w .in-rest .ensures tt))
+      | else-fits w ↦ subst (λ x. Turn rel rule plan (c .args .choices .now) (c .args .seen .now) x (c .args .depth) placing (c .loop-m .m + 1)) (sym (w .seen-is)) (turn-clash rel rule plan (c .args .choices .now) (c .pre .plan .origins) (c .args .seen .now) (c .loop-m .seen) (c .args .depth) (c .loop-m .m) (c .row-at .result) placing (c .row-at .ensures) (omega (arith, c .pre .groupable .few)) (omega arith) (c .loop-m .inv) (λ lands. both-ways _ (w .if-fits .left) (c .fits-in-loop-m .ensures .no lands)))
     ]
 
 pub returns-then-is-last : need.returns-then-is-last

@@ -22,13 +22,13 @@ loop-column-again c =
     let row = rule .«row_count» - 1 - c .loop-m .m in
     let column = c .loop-column .column in
     elim (c .if-code-ge16777216 .came) [
-      then-code-ge16777216 w ↦ subst (λ x. (length (x .origin) ≡ 64) × Rows-fit rule x × Origins-from rule x (row + 1) × Origins-of rule x row (column + 1)) (sym (w .plan-is)) (
+      | then-code-ge16777216 w ↦ subst (λ x. (length (x .origin) ≡ 64) × Rows-fit rule x × Origins-from rule x (row + 1) × Origins-of rule x row (column + 1)) (sym (w .plan-is)) (
         simp length-set (c .loop-column .inv .0),
         noted-rows rule plan row column (c .loop-column .inv .0) (c .pre .codes row (omega arith) column (c .loop-column-test .taken)) (w .if-code-ge16777216 .taken) (c .loop-column-test .taken) (omega arith) (c .loop-column .inv .1),
         noted-after rule plan row column (c .loop-column .inv .0) (c .pre .codes row (omega arith) column (c .loop-column-test .taken)) (w .if-code-ge16777216 .taken) (c .loop-column-test .taken) (c .loop-column .inv .2),
         noted-here rule plan row column (c .loop-column .inv .0) (c .pre .codes row (omega arith) column (c .loop-column-test .taken)) (w .if-code-ge16777216 .taken) (c .loop-column-test .taken) (c .loop-column .inv .3),
       )
-    | else-code-ge16777216 w ↦ subst (λ x. (length (x .origin) ≡ 64) × Rows-fit rule x × Origins-from rule x (row + 1) × Origins-of rule x row (column + 1)) (sym (w .plan-is)) (
+      | else-code-ge16777216 w ↦ subst (λ x. (length (x .origin) ≡ 64) × Rows-fit rule x × Origins-from rule x (row + 1) × Origins-of rule x row (column + 1)) (sym (w .plan-is)) (
         c .loop-column .inv .0,
         c .loop-column .inv .1,
         c .loop-column .inv .2,

@@ -12,6 +12,6 @@ loop-column-again c =
     let rule = c .args .rule .now in
     let plan = c .args .plan .now in
     elim (c .if-not-is-own .came) [
-      then-not-is-own w ↦ subst (λ x. (length (x .columns) ≡ 8) × Leaves rule plan (c .args .row) x (c .loop-column .column + 1)) (sym (w .tests-is)) (simp length-set (c .loop-column .inv .0), leaves-test rule plan (c .args .row) (c .loop-column .tests) (c .loop-column .column) (c .loop-column .inv .0) (omega (arith, c .pre .sound .width)) (c .loop-column .inv .1))
-    | else-not-is-own w ↦ subst (λ x. (length (x .columns) ≡ 8) × Leaves rule plan (c .args .row) x (c .loop-column .column + 1)) (sym (w .tests-is)) (c .loop-column .inv .0, leaves-own rule plan (c .args .row) (c .loop-column .tests) (c .loop-column .column) (c .loop-column .inv .1) (c .is-own .ensures (w .if-not-is-own .left)))
+      | then-not-is-own w ↦ subst (λ x. (length (x .columns) ≡ 8) × Leaves rule plan (c .args .row) x (c .loop-column .column + 1)) (sym (w .tests-is)) (simp length-set (c .loop-column .inv .0), leaves-test rule plan (c .args .row) (c .loop-column .tests) (c .loop-column .column) (c .loop-column .inv .0) (omega (arith, c .pre .sound .width)) (c .loop-column .inv .1))
+      | else-not-is-own w ↦ subst (λ x. (length (x .columns) ≡ 8) × Leaves rule plan (c .args .row) x (c .loop-column .column + 1)) (sym (w .tests-is)) (c .loop-column .inv .0, leaves-own rule plan (c .args .row) (c .loop-column .tests) (c .loop-column .column) (c .loop-column .inv .1) (c .is-own .ensures (w .if-not-is-own .left)))
     ]

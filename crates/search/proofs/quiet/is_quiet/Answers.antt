@@ -12,6 +12,6 @@ loop-r-again g c =
     let rel = g .R·Relation .meaning (c .args .relation .now) .rows in
     let rule = c .args .rule .now in
     below-more _ _ (c .loop-r .inv) (elim (c .if-code-ge16777216 .came) [
-      then-code-ge16777216·else-slot-rule·else-slot-rule-2·else-rule-slot·else-not-one-value w ↦ same-column rel rule _ _ (w .if-slot-rule .left) (subst (One-value rel rule _) (w .if-rule-slot .left) (w .one-value .ensures (w .if-not-one-value .left)))
-    | else-code-ge16777216 w ↦ λ x y _ _. same-constant rel rule _ (w .if-code-ge16777216 .left) x y
+      | then-code-ge16777216·else-slot-rule·else-slot-rule-2·else-rule-slot·else-not-one-value w ↦ same-column rel rule _ _ (w .if-slot-rule .left) (subst (One-value rel rule _) (w .if-rule-slot .left) (w .one-value .ensures (w .if-not-one-value .left)))
+      | else-code-ge16777216 w ↦ λ x y _ _. same-constant rel rule _ (w .if-code-ge16777216 .left) x y
     ])

@@ -13,9 +13,9 @@ loop-row-again g c =
     let rel = g .R·Relation .meaning (c .args .relation .now) .rows in
     let rule = c .args .rule .now in
     elim (c .if-not-unlike .came) [
-      then-not-unlike·in-Some·else-number-other w ↦ subst (So-far rel rule (c .args .i) (codeAt rule (c .args .i) (c .args .j)) (c .loop-row .row + 1)) (sym (w .found-is)) (so-far-some rel rule _ _ _ _ _ (c .loop-row .found) (w .in-Some .is) (c .pre .j) (w .cell-number .ensures) (w .if-number-other .left) (c .loop-row .inv))
-    | then-not-unlike·in-None w ↦ subst (So-far rel rule (c .args .i) (codeAt rule (c .args .i) (c .args .j)) (c .loop-row .row + 1)) (sym (w .found-is)) (so-far-none rel rule _ _ _ _ (c .loop-row .found) (w .in-None .is) (c .pre .j) (w .cell-number .ensures) (c .loop-row .inv))
-    | else-not-unlike w ↦ subst (So-far rel rule (c .args .i) (codeAt rule (c .args .i) (c .args .j)) (c .loop-row .row + 1)) (sym (w .found-is)) (so-far-unlike rel rule _ _ _ (c .loop-row .found) (c .loop-row .inv) (c .unlike .ensures (w .if-not-unlike .left)))
+      | then-not-unlike·in-Some·else-number-other w ↦ subst (So-far rel rule (c .args .i) (codeAt rule (c .args .i) (c .args .j)) (c .loop-row .row + 1)) (sym (w .found-is)) (so-far-some rel rule _ _ _ _ _ (c .loop-row .found) (w .in-Some .is) (c .pre .j) (w .cell-number .ensures) (w .if-number-other .left) (c .loop-row .inv))
+      | then-not-unlike·in-None w ↦ subst (So-far rel rule (c .args .i) (codeAt rule (c .args .i) (c .args .j)) (c .loop-row .row + 1)) (sym (w .found-is)) (so-far-none rel rule _ _ _ _ (c .loop-row .found) (w .in-None .is) (c .pre .j) (w .cell-number .ensures) (c .loop-row .inv))
+      | else-not-unlike w ↦ subst (So-far rel rule (c .args .i) (codeAt rule (c .args .i) (c .args .j)) (c .loop-row .row + 1)) (sym (w .found-is)) (so-far-unlike rel rule _ _ _ (c .loop-row .found) (c .loop-row .inv) (c .unlike .ensures (w .if-not-unlike .left)))
     ]
 
 pub returns : need.returns

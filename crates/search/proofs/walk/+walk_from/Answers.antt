@@ -14,10 +14,28 @@ returns-in-None g t c = joins-here (g .R·Relation .meaning (c .args .relation .
 
 pub walk-from-requires : need.walk-from-requires
 walk-from-requires g t c κs within =
-    let long : length (c .args .places .rows) ≡ 8 = search needs in
-    (search needs, (search needs, (search needs, (search needs, (search needs, (search needs, (search needs,
-      landed-more _ _ (c .args .plan .now) (c .pre .plan .origins) _ _ (c .args .places .rows) (omega (arith, c .pre .sound .rows)) (omega arith) (c .pre .lands) (c .if-lands .ensures tt .yes refl)
-    )))))))
+    let long : length (c .args .places .rows) ≡ 8 = search needs in (
+      search needs,
+      (
+        search needs,
+        (
+          search needs,
+          (
+            search needs,
+            (
+              search needs,
+              (
+                search needs,
+                (
+                  search needs,
+                  landed-more _ _ (c .args .plan .now) (c .pre .plan .origins) _ _ (c .args .places .rows) (omega (arith, c .pre .sound .rows)) (omega arith) (c .pre .lands) (c .if-lands .ensures tt .yes refl),
+                ),
+              ),
+            ),
+          ),
+        ),
+      ),
+    )
 
 pub loop-m-again : need.loop-m-again
 loop-m-again g t c =
@@ -27,8 +45,8 @@ loop-m-again g t c =
     let places = c .args .places .rows in
     let long : length places ≡ 8 = search needs in
     below-more _ _ (c .loop-m .inv) (subst (λ k. With rel rule (c .args .depth) places k (Joins rule)) (c .row-at .ensures) (elim (c .if-lands .came) [
-      then-lands·in-rest w ↦ tried-next rel rule plan (c .pre .plan .origins) (c .args .depth) (c .row-at .result) places (omega (arith, c .pre .sound .rows)) (omega arith) (Joins rule) (w .in-rest .ensures tt)
-    | else-lands w ↦ tried-clash rel rule plan (c .pre .plan .origins) (c .args .depth) (c .row-at .result) places (omega (arith, c .pre .sound .rows)) (omega arith) (Joins rule) (λ lands. both-ways _ (w .if-lands .left) (c .lands .ensures .no lands))
+      | then-lands·in-rest w ↦ tried-next rel rule plan (c .pre .plan .origins) (c .args .depth) (c .row-at .result) places (omega (arith, c .pre .sound .rows)) (omega arith) (Joins rule) (w .in-rest .ensures tt)
+      | else-lands w ↦ tried-clash rel rule plan (c .pre .plan .origins) (c .args .depth) (c .row-at .result) places (omega (arith, c .pre .sound .rows)) (omega arith) (Joins rule) (λ lands. both-ways _ (w .if-lands .left) (c .lands .ensures .no lands))
     ]))
 
 pub returns : need.returns
