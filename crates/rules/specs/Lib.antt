@@ -3,3 +3,4 @@ pub mod Books
 pub mod Laws
 pub mod Doubled
 pub mod Loaded
+pub mod Faults

@@ -1,0 +1,4 @@
+// Two books as one.
+pub mod fault;
+pub mod joined;
+mod place;

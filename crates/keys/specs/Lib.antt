@@ -1,0 +1,4 @@
+pub mod Keys
+pub mod Faults
+pub mod Laws
+pub mod Wells

@@ -1,0 +1,2 @@
+// A book in words.
+pub mod listing;

@@ -1,0 +1,7 @@
+// Sheets: books of rules that are written down as 32-bit words.
+pub mod laws;
+mod reads;
+pub mod sheet;
+mod table;
+mod walk;
+mod want;
