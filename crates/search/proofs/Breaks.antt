@@ -203,7 +203,7 @@ module _ (rel : Relation) (pattern : Pattern) (left : List ℕ) (pairs : List (T
       nth-getD (pattern ++ copies) (length pattern + i) [] (omega arith)
       ∙ ap Some (getD-append-right pattern copies (length pattern) (length pattern + i) [] refl (omega arith) ∙ ap (λ x. getD copies x []) back ∙ getD-map (map (copied left)) pattern i [] [] inside ∙ ap (map (copied left)) is)
 
-  pub undoubled : (s : Spot) → Break rel (doubled rule) s → Break rel rule s
+  undoubled : (s : Spot) → Break rel (doubled rule) s → Break rel rule s
   undoubled s b = record {
     f = b .f;
     g = after left (b .f);
@@ -242,7 +242,25 @@ module _ (rel : Relation) (pattern : Pattern) (left : List ℕ) (pairs : List (T
       is : copied-pair q ≡ b .sides
       is = some-same _ _ (ap Some (sym (getD-map copied-pair pairs (s .pair) none none inside)) ∙ sym (nth-getD (map copied-pair pairs) (s .pair) none (nth-within (map copied-pair pairs) (s .pair) (b .sides) (b .pair))) ∙ b .pair)
 
-pub undouble : (rel : Relation) (r : Rule) (s : Spot) → r .kind ≡ Functional → Break rel (doubled r) s → Break rel r s
-undouble rel r s functional b =
-    let e : r ≡ record { kind = Functional; pattern = r .pattern; left = r .left; pairs = r .pairs } = ap (λ (k : Kind). record { kind = k; pattern = r .pattern; left = r .left; pairs = r .pairs }) functional in
-    subst (λ x. Break rel x s) (sym e) (undoubled rel (r .pattern) (r .left) (r .pairs) s (subst (λ x. Break rel (doubled x) s) e b))
+  -- an equality rule is its own doubled form, but for its left variables, which it has none of
+  same-break : (s : Spot) → Break rel (doubled (record { kind = Equality; pattern = pattern; left = left; pairs = pairs })) s → Break rel (record { kind = Equality; pattern = pattern; left = left; pairs = pairs }) s
+  same-break s b = record {
+    f = b .f;
+    g = b .g;
+    compares = record { first = b .compares .first; second = b .compares .second; agree = b .compares .agree };
+    first-rows = b .first-rows;
+    second-rows = b .second-rows;
+    unused = b .unused;
+    sides = b .sides;
+    pair = b .pair;
+    on-first = b .on-first;
+    on-second = b .on-second;
+    differ = b .differ;
+  }
+
+  undouble-as : (k : Kind) (s : Spot) → Break rel (doubled (record { kind = k; pattern = pattern; left = left; pairs = pairs })) s → Break rel (record { kind = k; pattern = pattern; left = left; pairs = pairs }) s
+  undouble-as Functional s b = undoubled s b
+  undouble-as Equality s b = same-break s b
+
+pub undouble : (rel : Relation) (r : Rule) (s : Spot) → Break rel (doubled r) s → Break rel r s
+undouble rel r s b = undouble-as rel (r .pattern) (r .left) (r .pairs) (r .kind) s b

@@ -13,7 +13,7 @@ use Rattle.std.specs.declared.option.Option.{Option}
 use Rattle.std.specs.declared.option.Option.the-variants.{Some, None}
 use Rattle.std.proofs.shelf.Maps.{nth-getD, nth-past}
 use Rattle.std.proofs.shelf.Tests.{cases-lt}
-use Rattle.rules.specs.declared.term.Kind.the-variants.{Functional, Equality}
+use Rattle.rules.specs.declared.term.Kind.the-variants.{Equality}
 use Rattle.rules.specs.declared.loaded.LoadedRule.{LoadedRule}
 use Rattle.rules.specs.Rules.{_∈_, Relation, Rule, Keeps}
 use Rattle.rules.specs.Books.{BookMeaning, Well-formed, Well-formed-book}
@@ -80,14 +80,14 @@ looked-past rel rules i o past r e = absurd (some-none r (sym e ∙ nth-past rul
 pub looked-is : (rel : Relation) (rules : List Rule) (i : ℕ) (q : Rule) (o : Option Spot) → nth rules i ≡ Some q → Looked rel q i o → Looked-at rel rules i o
 looked-is rel rules i q o there looked r e = subst (λ x. Looked rel x i o) (some-same q r (sym there ∙ e)) looked
 
-pub looked-doubled : (rel : Relation) (w : ℕ) (r : Rule) (i : ℕ) (o : Option Spot) → Well-formed w r → r .kind ≡ Functional → Looked rel (doubled r) i o → Looked rel r i o
-looked-doubled rel w r i None fit functional keeps = keeps-doubled w r rel fit keeps
-looked-doubled rel w r i (Some s) fit functional (broken, e) = (undouble rel r s functional broken, e)
+pub looked-doubled : (rel : Relation) (w : ℕ) (r : Rule) (i : ℕ) (o : Option Spot) → Well-formed w r → Looked rel (doubled r) i o → Looked rel r i o
+looked-doubled rel w r i None fit keeps = keeps-doubled w r rel fit keeps
+looked-doubled rel w r i (Some s) fit (broken, e) = (undouble rel r s broken, e)
 
-pub looked-form : (rel : Relation) (b : BookMeaning) → Well-formed-book b → (i : ℕ) (d : LoadedRule) (o : Option Spot) → ((r : Rule) → nth (b .rules) i ≡ Some r → r .kind ≡ Functional) → Doubled-of b i d → Looked rel (meant d) i o → Looked-at rel (b .rules) i o
-looked-form rel b well i d o functional form looked =
+pub looked-form : (rel : Relation) (b : BookMeaning) → Well-formed-book b → (i : ℕ) (d : LoadedRule) (o : Option Spot) → Doubled-of b i d → Looked rel (meant d) i o → Looked-at rel (b .rules) i o
+looked-form rel b well i d o form looked =
     looked-is rel (b .rules) i (form .rule) o (form .there)
-    (looked-doubled rel (b .width) (form .rule) i o (well .rules-fit (form .rule) (nth-member (b .rules) i (form .rule) (form .there))) (functional (form .rule) (form .there)) (subst (λ x. Looked rel x i o) (form .is) looked))
+    (looked-doubled rel (b .width) (form .rule) i o (well .rules-fit (form .rule) (nth-member (b .rules) i (form .rule) (form .there))) (subst (λ x. Looked rel x i o) (form .is) looked))
 
 pub form-equality : (b : BookMeaning) (i : ℕ) (d : LoadedRule) → Doubled-of b i d → d .kind ≡ Equality
 form-equality b i d form = ap (λ (r : Rule). r .kind) (form .is)

@@ -3,10 +3,7 @@ ghost use mathlib.Core.Path.{_≡_};
 ghost use Prim.Native.Nat.{ℕ, _+_, _<_, _≤_};
 ghost use lib.ListN.{length, getD};
 ghost use Rattle.std.specs.Options.{Cases as BySome};
-ghost use Rattle.std.specs.shelf.Maps.{nth};
-ghost use Rattle.std.specs.declared.option.Option.the-variants.{Some};
 ghost use Rattle.rules.specs.declared.term.Kind.the-variants.{Functional, Equality};
-ghost use Rattle.rules.specs.Rules.{Rule};
 ghost use Rattle.rules.specs.Loaded.{meant, Of-book};
 ghost use Rattle.search.specs.Placings.{place, Picks, Sound};
 ghost use Rattle.search.specs.Spots.{Found, Looked, Looked-at, Quiet};
@@ -151,8 +148,7 @@ fn look_doubled<R: Relation, B: Book>(
     choices: &Choices,
     tests: &mut u64,
 ) -> Option<Spot>
-    requires picks { ⌜ Picks (R·Relation .meaning (now relation) .rows) (now choices) (length (R·Relation .meaning (now relation) .rows)) ⌝ }
-    requires kind { ⌜ ((r : Rule) → nth (B·Book .meaning (now book) .rules) number ≡ Some r → r .kind ≡ Functional) ⌝ }
+    requires { ⌜ Picks (R·Relation .meaning (now relation) .rows) (now choices) (length (R·Relation .meaning (now relation) .rows)) ⌝ }
     ensures { λ r. ⌜ Looked-at (R·Relation .meaning (now (relation .entry)) .rows) (B·Book .meaning (now (book .entry)) .rules) number r ⌝ }
 {
     match load_doubled(book, number) {
@@ -184,6 +180,14 @@ fn look<R: Relation, B: Book>(
         },
         None => None,
     }
+}
+
+// A look at one rule that walks through the placings of its doubled form, one by one: slow, and a measure for others.
+pub fn look_plainly<R: Relation, B: Book>(relation: &R, book: &B, rule: usize, scratch: &mut Scratch) -> Option<Spot>
+    ensures { λ r. ⌜ Looked-at (R·Relation .meaning (now (relation .entry)) .rows) (B·Book .meaning (now (book .entry)) .rules) rule r ⌝ }
+{
+    let choices = choices_of(relation);
+    look_doubled(relation, book, rule, &choices, &mut scratch.tests)
 }
 
 // Looks at `turns` rules, from rule `first` on and round past the last, for a break; none if the relation keeps them all.
