@@ -127,17 +127,9 @@ fn bucket_of<R: Relation>(relation: &R, rule: &LoadedRule, plan: &Plan, placing:
     ensures value { λ r. ⌜ r ≡ bucket (meaning (now (relation .entry)) .rows) (now (rule .entry)) (now (plan .entry)) (now (placing .entry) .rows) ⌝ }
 {
     let mut hash: u64 = 0;
-    for l in 0..rule.left_count {
-        hash = mixed(
-            hash,
-            read(
-                relation,
-                rule,
-                plan,
-                placing,
-                16777216 + rule.left[l] as u32,
-            ),
-        );
+    for k in 0..rule.left_count {
+        let code = 16777216 + rule.left[k] as u32;
+        hash = mixed(hash, read(relation, rule, plan, placing, code));
     }
     (hash >> 54) as usize
 }
