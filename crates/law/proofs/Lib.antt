@@ -1,0 +1,15 @@
+pub mod Lists
+pub mod Counts
+pub mod Starting
+pub mod Sound
+pub mod Shown
+pub mod Lawful
+pub mod Reading
+pub mod Verdicts
+pub mod Histories
+pub mod Kept
+pub mod Search
+pub mod Ends
+pub mod SameEnd
+pub mod Storing
+pub mod RunEnds
