@@ -44,7 +44,7 @@ nth-member (y ∷ ys) (suc k) x e = List·Memᴰ·tail (nth-member ys k x e)
 pub true-false : false ≡ true → ⊥
 true-false e = let z : _≡_ {A = ℕ} 0 1 = cc in omega arith
 
-later-none : {A : Type 0} (o : Option A) → or-later o None ≡ o
+pub later-none : {A : Type 0} (o : Option A) → or-later o None ≡ o
 later-none None = refl
 later-none (Some a) = refl
 
@@ -84,7 +84,7 @@ module _ (b : BookMeaning) (book-fits : Well-formed-book b) where
         clash = clash;
       }
 
-  started-sane : (o : Option Rule) (targets : BookMeaning) (k : ℕ) → Well-formed-book targets → {x y : View} {a : Answer} →
+  pub started-sane : (o : Option Rule) (targets : BookMeaning) (k : ℕ) → Well-formed-book targets → {x y : View} {a : Answer} →
       Starts b targets k x a y → Sane b o x → Sane b (or-later o (named (Start targets k) a)) y
   started-sane o targets k targets-fit (not-blank {x = x}) sane = good-later b o None x sane
   started-sane o targets k targets-fit (no-rule l) sane = ap (λ (i : Option Rule). or-later i None) sane
@@ -115,7 +115,7 @@ module _ (b : BookMeaning) (book-fits : Well-formed-book b) where
   call-sane o (Start targets k) fit x y a step sane = started-sane o targets k fit step sane
   call-sane o (Advance n) fit x y a step sane = subst (λ (i : Option Rule). Sane b i y) (sym (later-none o)) (advanced-sane o n step sane)
 
-  turn-sane : (o : Option Rule) (t : Turn) → Given b t → (x y : View) → Steps (t .book) (t .call) x (t .answer) y → Sane b o x →
+  pub turn-sane : (o : Option Rule) (t : Turn) → Given b t → (x y : View) → Steps (t .book) (t .call) x (t .answer) y → Sane b o x →
       Sane b (or-later o (named (t .call) (t .answer))) y
   turn-sane o t given x y step sane =
       call-sane o (t .call) (given .targets-fit) x y (t .answer)

@@ -3,13 +3,14 @@ use mathlib.Core.Path.{_≡_, refl, sym, ap, _∙_, subst}
 use mathlib.Core.Bool.{Bool, true, false}
 use mathlib.Core.List.{List, [], _∷_, _++_, List·Memᴰ·cases-cons, List·Memᴰ·append-cases}
 use mathlib.Core.Logic.{_↔_, _⊎_, inl, inr}
-use Prim.Native.Nat.{ℕ}
+use Prim.Native.Nat.{ℕ, _<_, _≤_}
 use native.Mathlib.Omega.{arith}
+use Rattle.std.proofs.shelf.Tests.{cases-lt}
 use Rattle.std.specs.declared.option.Option.{Option}
 use Rattle.std.specs.declared.option.Option.the-variants.{Some, None}
 use Rattle.rules.specs.declared.term.Term.{Term}
 use Rattle.rules.specs.Rules.{_∈_, Relation, Pattern, Rule}
-use Rattle.rules.specs.Books.{BookMeaning, Well-formed-book}
+use Rattle.rules.specs.Books.{BookMeaning, base, Stands, Well-formed-book}
 use Rattle.rules.specs.Doubled.{doubled-rows, doubled-pairs}
 use Rattle.law.specs.declared.outcome.Verdict.{Verdict}
 use Rattle.law.specs.declared.outcome.Verdict.the-variants.{Void, Follows, Fails}
@@ -18,8 +19,9 @@ use Rattle.law.specs.Groups.{Entry, Forced, State, current, Read-alike}
 use Rattle.law.specs.Runs.{At-rest, Merges, Reached, Ended, clash-met, pairs-met, pairs-apart}
 use Rattle.law.specs.Calls.{Started, View, Blank, Going, moved, Finished, Finishes, never-begun, finish-width, clashed-before, ended, rows-of, finished-rows}
 use Rattle.law.specs.Promise.{Turn, Ending, Unfinished, Finished-by, last-view, Answered-last, seen, target-of, Once-finished, Promise, Given-last, History}
-use Rattle.law.specs.Laws.{Promise-kept}
+use Rattle.law.specs.Laws.{Promise-kept, Shown-so, by-constant, by-least, Groups-show}
 use Rattle.law.proofs.Sound.{Impossible, Sound, forced, clash-impossible}
+use Rattle.law.proofs.Shown.{Shape}
 use Rattle.law.proofs.Lawful.{merges-lawful}
 use Rattle.law.proofs.Verdicts.{no-counterexample, reached-implied, impossible-implied, rest-breaks, rest-alike}
 use Rattle.law.proofs.Histories.{true-false, Good, Sane, good-fit, good-moved, history-good, history-sane}
@@ -169,19 +171,48 @@ module _ (b : BookMeaning) (book-fits : Well-formed-book b) (turns : List Turn) 
         alike-exactly-if-forced = λ t e. told t e .alike;
       }
 
-  kept-to : (ending : Ending) → Given-last b ending → Answered-last (last-view Blank views) ending → Promise b turns views ending
-  kept-to Unfinished given last = promised Unfinished last (history-good b book-fits turns views h) tt
-  kept-to (Finished-by c f) given last = promised (Finished-by c f) last (λ z m. go z (List·Memᴰ·append-cases views m)) end
-    where
-      end : Known-end b (target-of turns) f
-      end =
-          known-end b book-fits (target-of turns) (subst (λ (d : BookMeaning). Finishes d (last-view Blank views) f) given last)
-          (history-sane b book-fits turns views h)
+  end-known : (c : BookMeaning) (f : Finished) → c ≡ b → Finishes c (last-view Blank views) f → Known-end b (target-of turns) f
+  end-known c f given last =
+      known-end b book-fits (target-of turns) (subst (λ (d : BookMeaning). Finishes d (last-view Blank views) f) given last)
+      (history-sane b book-fits turns views h)
 
-      go : (z : Started) → (Going z ∈ views) ⊎ (Going z ∈ (f .left ∷ [])) → Good b (target-of turns) z
-      go z (inl m) = history-good b book-fits turns views h z m
-      go z (inr m) =
-          elim (List·Memᴰ·cases-cons m) [ inl e ↦ left-good b book-fits (target-of turns) end z e | inr k ↦ elim k [ ] ]
+  -- what is known of every view, the one that finish left too
+  pub seen-good : (ending : Ending) → Given-last b ending → Answered-last (last-view Blank views) ending →
+      (z : Started) → Going z ∈ seen views ending → Good b (target-of turns) z
+  seen-good Unfinished given last z m = history-good b book-fits turns views h z m
+  seen-good (Finished-by c f) given last z m = go (List·Memᴰ·append-cases views m)
+    where
+      go : (Going z ∈ views) ⊎ (Going z ∈ (f .left ∷ [])) → Good b (target-of turns) z
+      go (inl m) = history-good b book-fits turns views h z m
+      go (inr m) =
+          elim (List·Memᴰ·cases-cons m) [
+            | inl e ↦ left-good b book-fits (target-of turns) (end-known c f given last) z e
+            | inr k ↦ elim k [ ]
+          ]
+
+  kept-to : (ending : Ending) → Given-last b ending → Answered-last (last-view Blank views) ending → Promise b turns views ending
+  kept-to Unfinished given last = promised Unfinished last (seen-good Unfinished given last) tt
+  kept-to (Finished-by c f) given last = promised (Finished-by c f) last (seen-good (Finished-by c f) given last) (end-known c f given last)
 
 pub kept : Promise-kept
 kept b book-fits turns views ending h = kept-to b book-fits turns views h ending
+
+-- how groups show
+show-so : (start : Pattern) (s : State) → Shape start s → (v : ℕ) → Stands v start → Shown-so start s v
+show-so start s shape v st = go (cases-lt (s v) base)
+  where
+    go : (s v < base) ⊎ (base ≤ s v) → Shown-so start s v
+    go (inl low) = by-constant low
+    go (inr high) =
+        let k = shape v st high in
+        by-least (k .0) (k .2) (k .1 .itself ∙ sym (k .1 .shown)) (k .1 .shown)
+        (λ w sw one.
+        let shown = k .1 .shown in
+        let j = shape w sw (omega arith) in
+        let other = j .1 .shown in
+        let least = j .1 .least in
+        omega arith)
+
+pub shows : Groups-show
+shows b book-fits turns views ending h given last x m =
+    show-so (x .rows) (x .shows) (seen-good b book-fits turns views h ending given last x m .lawful .shape)

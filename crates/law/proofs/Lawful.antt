@@ -7,6 +7,7 @@ use Rattle.rules.specs.Rules.{_∈_, Relation, Pattern, Rule}
 use Rattle.rules.specs.Books.{BookMeaning}
 use Rattle.law.specs.Groups.{State, Alone, current, symbol-count, group-count}
 use Rattle.law.specs.Runs.{Open-spot, Merge, Clashing, At-rest, Merges, none, more, Run}
+use Rattle.law.specs.Laws.{More-rules, More-rules-still-a-run}
 use Rattle.law.proofs.Starting.{Fit}
 use Rattle.law.proofs.Sound.{Sound, alone-sound, merge-sound}
 use Rattle.law.proofs.Shown.{Shape, alone-shape, merge-shape, merge-counts, alone-counts, few-symbols}
@@ -75,3 +76,11 @@ module _ (rules rules′ : List Rule) (wider : (r : Rule) → r ∈ rules → r 
   pub wider-merges : (start : Pattern) (s : State) {s′ : State} {m : ℕ} → Merges rules start s s′ m → Merges rules′ start s s′ m
   wider-merges start s none = none
   wider-merges start s {s′} (more {s′ = s₁} ms step) = more (wider-merges start s ms) (wider-merge start s₁ s′ step)
+
+pub more-rules : More-rules-still-a-run
+more-rules rules rules′ wider =
+    record {
+      merges = λ start s s′ m merges. wider-merges rules rules′ wider start s merges;
+      clash = wider-clash rules rules′ wider;
+      rest = λ start s rest x y o. rest x y (wider-spot rules rules′ wider (current start s) x y o);
+    }

@@ -13,3 +13,6 @@ pub mod Ends
 pub mod SameEnd
 pub mod Storing
 pub mod RunEnds
+pub mod Due
+pub mod Stands
+pub mod Unmoved

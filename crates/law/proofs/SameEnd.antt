@@ -155,10 +155,10 @@ fails-quiet b book-fits o x v g told e =
       | inr c ↦ c
     ]
 
-some-one : (r r′ : Rule) → Some r ≡ Some r′ → r ≡ r′
+pub some-one : (r r′ : Rule) → Some r ≡ Some r′ → r ≡ r′
 some-one r r′ e = cc
 
-none-some : (r : Rule) → None ≡ Some r → ⊥
+pub none-some : (r : Rule) → None ≡ Some r → ⊥
 none-some r e = let z : _≡_ {A = ℕ} 0 1 = cc in omega arith
 
 going-one : (x y : Started) → Going x ≡ Going y → x ≡ y

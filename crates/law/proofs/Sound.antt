@@ -48,7 +48,7 @@ through-at start h s through (Constant c) k = reading-constant h c k
 through-at start h s through (Variable v) k = through v k
 
 -- what a rule compares it compares after a function too
-agree-after : (k : Kind) (left : List ℕ) (F : ℕ → ℕ) (f g : Valuation) → Agree k left f g → Agree k left (λ v. F (f v)) (λ v. F (g v))
+pub agree-after : (k : Kind) (left : List ℕ) (F : ℕ → ℕ) (f g : Valuation) → Agree k left f g → Agree k left (λ v. F (f v)) (λ v. F (g v))
 agree-after Functional left F f g same = λ v m. ap F (same v m)
 agree-after Equality left F f g same = λ v. ap F (same v)
 

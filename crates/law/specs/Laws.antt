@@ -1,17 +1,20 @@
 -- The laws of trials.
 use mathlib.Core.Path.{_≡_}
-use mathlib.Core.Bool.{Bool, false}
+use mathlib.Core.Bool.{Bool, false, cond}
 use mathlib.Core.List.{List}
-use Prim.Native.Nat.{ℕ, _+_}
+use Prim.Native.Nat.{ℕ, _+_, _-_, _<_, _≤_}
+use lib.Dec.{leb}
 use Rattle.std.specs.declared.option.Option.the-variants.{Some}
-use Rattle.rules.specs.Rules.{Pattern, Rule}
-use Rattle.rules.specs.Books.{BookMeaning, Stands, Well-formed, Well-formed-book}
+use Rattle.rules.specs.declared.term.Term.the-variants.{Variable}
+use Rattle.rules.specs.Rules.{_∈_, Pattern, Rule}
+use Rattle.rules.specs.Books.{BookMeaning, base, Stands, Well-formed, Well-formed-book}
 use Rattle.rules.specs.Doubled.{doubled-rows, doubled-pairs}
+use Rattle.law.specs.declared.outcome.Stop.the-variants.{Spent, Rest}
 use Rattle.law.specs.declared.outcome.Verdict.{Verdict}
-use Rattle.law.specs.Groups.{State}
-use Rattle.law.specs.Runs.{Run, Ended}
-use Rattle.law.specs.Calls.{Started, View, Blank, Going, Finished, Finishes, finished-rows}
-use Rattle.law.specs.Promise.{Turn, Ending, last-view, Answered-last, target-of, Promise, Given-last, History}
+use Rattle.law.specs.Groups.{State, One-group}
+use Rattle.law.specs.Runs.{Clashing, At-rest, Merges, Run, Ended}
+use Rattle.law.specs.Calls.{Started, View, Blank, Going, Answer, Made, Advances, Finished, Finishes, finished-rows}
+use Rattle.law.specs.Promise.{Turn, Ending, last-view, Answered-last, seen, target-of, Promise, Given-last, History}
 
 -- Every list of calls keeps the promise, whichever open spots are taken.
 abbrev pub Promise-kept : Type 0
@@ -68,3 +71,41 @@ Runs-end-alike =
     Run (b .rules) (doubled-rows t) s n → Run (b .rules) (doubled-rows t) s′ n′ → (clash clash′ : Bool) (v v′ : Verdict) →
     Ended (b .rules) (doubled-rows t) (doubled-pairs t) s clash v → Ended (b .rules) (doubled-rows t) (doubled-pairs t) s′ clash′ v′ →
     Same-run-end (doubled-rows t) s s′ n n′ clash clash′ v v′
+
+-- the answer to an advance by n, where so many merges are left to make before the trial comes to rest
+abbrev pub due : ℕ → ℕ → Answer
+due left n = cond (leb n left) (Made n Spent) (Made left Rest)
+
+abbrev pub merges-of : View → ℕ
+merges-of Blank = 0
+merges-of (Going x) = x .merges
+
+-- Where one run of the target comes to rest, its merges tell the answer to every advance of every trial of that target.
+abbrev pub Answers-due : Type 0
+Answers-due =
+    (b : BookMeaning) → Well-formed-book b → (t : Rule) → Well-formed (b .width) t → (s : State) (all : ℕ) (v : Verdict) →
+    Run (b .rules) (doubled-rows t) s all → Ended (b .rules) (doubled-rows t) (doubled-pairs t) s false v →
+    (turns : List Turn) (views : List View) → History b turns views → target-of turns ≡ Some t →
+    (n : ℕ) (a : Answer) (y : View) → Advances b n (last-view Blank views) a y → a ≡ due (all - merges-of (last-view Blank views)) n
+
+-- what a starting symbol shows as: its group's constant, or 16,777,216 plus the least symbol of its group
+pub data Shown-so (start : Pattern) (s : State) (v : ℕ) : Type 0 where
+  by-constant : s v < base → Shown-so start s v
+  by-least : (u : ℕ) → Stands u start → One-group s (Variable u) (Variable v) → s v ≡ base + u →
+      ((w : ℕ) → Stands w start → One-group s (Variable w) (Variable v) → u ≤ w) → Shown-so start s v
+
+-- After each call every starting symbol shows so.
+abbrev pub Groups-show : Type 0
+Groups-show =
+    (b : BookMeaning) → Well-formed-book b → (turns : List Turn) (views : List View) (ending : Ending) →
+    History b turns views → Given-last b ending → Answered-last (last-view Blank views) ending →
+    (x : Started) → Going x ∈ seen views ending → (v : ℕ) → Stands v (x .rows) → Shown-so (x .rows) (x .shows) v
+
+-- With more rules merges are still merges, a clash is still one, and what rests has rested.
+pub record More-rules (rules rules′ : List Rule) : Type 0 where
+  pub merges : (start : Pattern) (s s′ : State) (m : ℕ) → Merges rules start s s′ m → Merges rules′ start s s′ m
+  pub clash : (start : Pattern) (s : State) → Clashing rules start s → Clashing rules′ start s
+  pub rest : (start : Pattern) (s : State) → At-rest rules′ start s → At-rest rules start s
+
+abbrev pub More-rules-still-a-run : Type 0
+More-rules-still-a-run = (rules rules′ : List Rule) → ((r : Rule) → r ∈ rules → r ∈ rules′) → More-rules rules rules′

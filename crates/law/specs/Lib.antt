@@ -4,4 +4,6 @@ pub mod Runs
 pub mod Calls
 pub mod Promise
 pub mod Stored
+pub mod Standing
+pub mod Renaming
 pub mod Laws
