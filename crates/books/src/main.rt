@@ -84,6 +84,7 @@ fn print_refusal(rt: &LibcRuntime, refusal: Refusal) -> Result<(), AnyError> {
     let layer = match refusal.layer {
         Layer::Book => "book",
         Layer::Join => "join",
+        Layer::Trial => "trial",
     };
     println!(rt, "refused {number} {layer} {place}")?;
     Ok(())

@@ -10,6 +10,7 @@ pub fn print_refusal(rt: &LibcRuntime, case: &str, refusal: Refusal) -> io::Resu
     let layer = match refusal.layer {
         Layer::Book => "book",
         Layer::Join => "join",
+        Layer::Trial => "trial",
     };
     println!(rt, "{case}: refused {number} {layer} {place}")
 }

@@ -2,5 +2,5 @@ pub mod Rules
 pub mod Books
 pub mod Laws
 pub mod Doubled
-pub mod Loaded
 pub mod Faults
+pub mod Loaded

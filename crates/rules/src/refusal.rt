@@ -5,6 +5,7 @@
 pub enum Layer {
     Book,
     Join,
+    Trial,
 }
 
 // Its number in the table of refusals, who refused, and where: a place, or 0 where there is none to tell.
