@@ -1,0 +1,10 @@
+pub mod Walk
+pub mod Layout
+pub mod Reads
+pub mod Laws
+pub mod Worked
+pub mod Facts
+pub mod Slots
+pub mod Wholes
+pub mod Lays
+pub mod Wells
