@@ -5,3 +5,4 @@ pub mod Sound
 pub mod Complete
 pub mod Refusals
 pub mod Theorems
+pub mod Telling
