@@ -1,0 +1,53 @@
+-- What reading tells of the text.
+use mathlib.Core.Path.{_≡_, refl, sym, ap, subst, _∙_}
+use mathlib.Core.Bool.{true, false, cond}
+use mathlib.Core.List.{List}
+use mathlib.Core.Logic.{_⊎_, inl, inr, ⊎-elim}
+use Prim.Native.Nat.{ℕ, _≤_}
+use native.Mathlib.Omega.{arith}
+use lib.Dec.{leb}
+use lib.ListN.{length}
+use Rattle.std.specs.declared.result.Result.{Result}
+use Rattle.std.specs.declared.result.Result.the-variants.{Ok, Err}
+use Rattle.std.proofs.shelf.Tests.{cond-false, cases-bool, leb-true}
+use Rattle.text.specs.Lines.{linesAt}
+use Rattle.text.specs.declared.words.Name.{Name}
+use Rattle.reader.specs.declared.fault.Cause.{Cause}
+use Rattle.reader.specs.declared.fault.Cause.the-variants.{Byte, Form, Count, Unknown, Room, Lines}
+use Rattle.reader.specs.declared.fault.ReadFault.{ReadFault}
+use Rattle.reader.specs.declared.desk.Sizes.{Sizes}
+use Rattle.reader.specs.Format.{Rooms, Memo, readLines, wholeText, nothing, readText}
+use Rattle.reader.specs.Reads.{Lent, Holds, Reads}
+use Rattle.spelling.specs.Draft.{Draft, Spells, putDown}
+use Rattle.spelling.specs.Laws.{Why, Tells}
+use Rattle.spelling.proofs.Lexical.{no-ok, cond-ok}
+use Rattle.spelling.proofs.Refusals.{Refused, same-cause}
+use Rattle.spelling.proofs.Theorems.{read-spells, spelled-reads, refused-spells-nothing, refused-lines}
+
+module _ (rooms : Rooms) (text : List ℕ) where
+  why : (e : Cause) (n : ℕ) → readText rooms text ≡ Refused n e → Why text n e
+  why Byte n q = λ other same d h. refused-spells-nothing rooms text other Byte n q (λ x. let z : _≡_ {A = ℕ} 0 1 = cc (x) in omega arith) (λ x. let z : _≡_ {A = ℕ} 0 1 = cc (x) in omega arith) same d h
+  why Form n q = λ other same d h. refused-spells-nothing rooms text other Form n q (λ x. let z : _≡_ {A = ℕ} 0 1 = cc (x) in omega arith) (λ x. let z : _≡_ {A = ℕ} 0 1 = cc (x) in omega arith) same d h
+  why Count n q = λ other same d h. refused-spells-nothing rooms text other Count n q (λ x. let z : _≡_ {A = ℕ} 0 1 = cc (x) in omega arith) (λ x. let z : _≡_ {A = ℕ} 0 1 = cc (x) in omega arith) same d h
+  why Unknown n q = λ other same d h. refused-spells-nothing rooms text other Unknown n q (λ x. let z : _≡_ {A = ℕ} 0 1 = cc (x) in omega arith) (λ x. let z : _≡_ {A = ℕ} 0 1 = cc (x) in omega arith) same d h
+  why Room n q = tt
+  why Lines n q = refused-lines rooms text n q
+
+  short : (m : Memo) → readText rooms text ≡ Ok m → length text ≤ 65536
+  short m q = leb-true _ _ (cond-ok (leb (length text) 65536) (readLines rooms 1 wholeText nothing (linesAt 0 text)) (record { cause = Room; line = 0 }) m q .0)
+
+  same-memo : (m : Memo) → readText rooms text ≡ Ok m → (d : Draft) → Spells text d → m ≡ putDown d
+  same-memo m q d h = ⊎-elim (λ e. let s : m ≡ putDown d = cc (q, e) in s) (λ r. no-ok (record { cause = Room; line = r .0 }) m (sym (r .1) ∙ q)) (spelled-reads rooms text d (short m q) h)
+
+  only-room : (e : ReadFault) → readText rooms text ≡ Err e → (d : Draft) → Spells text d → e .cause ≡ Room
+  only-room e q d h =
+      ⊎-elim
+      (λ t. ⊎-elim (λ r. no-ok e (putDown d) (sym q ∙ r)) (λ r. same-cause (e .line) (r .0) (e .cause) Room (sym q ∙ r .1)) (spelled-reads rooms text d (leb-true _ _ t) h))
+      (λ t. same-cause (e .line) 0 (e .cause) Room (sym q ∙ cond-false (leb (length text) 65536) (readLines rooms 1 wholeText nothing (linesAt 0 text)) (Refused 0 Room) t))
+      (cases-bool (leb (length text) 65536))
+
+  pub telling : (n : Lent) (r : Result Sizes ReadFault) (rs ts : List ℕ) (ns : List Name) → Reads text n (readText rooms text) r rs ts ns → Tells text n r rs ts ns
+  telling n (Ok s) rs ts ns (m, q, h) =
+      let d = read-spells rooms text m q in
+      record { draft = d .0; spells = d .1; holds = λ e sp. subst (λ z. Holds text n z s rs ts ns) (same-memo m q e sp) h }
+  telling n (Err e) rs ts ns (q, b) = record { blank = b; why = why (e .cause) (e .line) q; only-room = only-room e q }

@@ -1,0 +1,3 @@
+// What the texts that are read spell.
+pub mod laws;
+pub mod spelled;
