@@ -28,7 +28,16 @@ fn eight_rows() -> [Row; 8] {
     for k in 0..8u8 {
         let n = k as u32;
         rows[k as usize] = Row {
-            entries: [n % 2, 10 + n % 2, n, 5, n % 4, 100 + n * 3 % 8, n / 2, n / 2 % 2],
+            entries: [
+                n % 2,
+                10 + n % 2,
+                n,
+                5,
+                n % 4,
+                100 + n * 3 % 8,
+                n / 2,
+                n / 2 % 2,
+            ],
         };
     }
     rows
@@ -85,6 +94,9 @@ fn print_set(rt: &LibcRuntime, set: Set, rules: u16, plain: bool) -> Result<(), 
     let name = set.name();
     let count = sheet.count();
     let tests = scratch.tests();
-    println!(rt, "{name}: {kept} of {count} rules kept, {tests} row tests")?;
+    println!(
+        rt,
+        "{name}: {kept} of {count} rules kept, {tests} row tests"
+    )?;
     Ok(())
 }

@@ -5,7 +5,7 @@ use Prim.Native.Nat.{ℕ, suc, _+_, _-_, _*_, _^_, _<_, _≤_}
 use native.Mathlib.Nat.{pow-zero, pow-succ', suc-mul, mul-le-mul-right, pow-le-pow-left, pow-le-pow-right}
 use native.Mathlib.Omega.{arith}
 use borrow.Author.Count.{below-more}
-use lib.ListN.{length, getD, set}
+use lib.ListN.{length, getD, set, replicate}
 use Rattle.std.specs.Options.{Cases as BySome}
 use Rattle.std.specs.declared.option.Option.{Option}
 use Rattle.std.specs.declared.option.Option.the-variants.{Some, None}
@@ -47,17 +47,6 @@ module _ (rel : List (List ℕ)) (rule : LoadedRule) (plan : Plan) where
 
   pub covered-old : (seen : Seen) (p : List ℕ) (e : ℕ) → Old rel rule plan seen p e → Same-right rule (filled rel plan (entry seen e)) (filled rel plan p) → Covered rel rule plan seen (filled rel plan p)
   covered-old seen p e (h, l) r = (e, h, (λ k hk. sym (l k hk)), (λ k hk. sym (r k hk)))
-
-  pub breaks-here : (seen : Seen) (p : List ℕ) (e r a b : ℕ) → Fine rel rule plan seen → Landed rel rule plan p (rule .«row_count») → Old rel rule plan seen p e
-      → Parts rule (filled rel plan (entry seen e)) (filled rel plan p) r a b → Parted-at rel rule (entry seen e) p r a b
-  breaks-here seen p e r a b fine lands (h, l) parts = record {
-    f = filled rel plan (entry seen e);
-    g = filled rel plan p;
-    lands-first = fine .lands e h;
-    lands-second = lands;
-    same = l;
-    parts = parts;
-  }
 
   pub fine-empty : (seen : Seen) → seen .used ≡ 0 → ((b : ℕ) → b < 1024 → getD (seen .heads) b 0 ≡ 0) → Fine rel rule plan seen
   fine-empty seen none heads = record {
@@ -123,10 +112,6 @@ module _ (rel : List (List ℕ)) (rule : LoadedRule) (plan : Plan) where
     settle-covers None s t depth p origins e sound (went, covered) = (went-most s t 1 (choices d rule depth) went (omega (arith, choices-end depth e)), covers-here origins t depth p e sound covered)
     settle-covers (Some spot) s t depth p origins e sound breaks = breaks
 
-    pub keeps-start : (o : Option Parting) (s t : Seen) (p : List ℕ) → BySome o (Went rel rule plan s t (choices d rule 0) × Covers rel rule plan t 0 p) (Parting-at rel rule) → BySome o (All-agree rel rule) (Parting-at rel rule)
-    keeps-start None s t p (went, covers) = keeps-all t p (went .fine) covers
-    keeps-start (Some spot) s t p breaks = breaks
-
     pub turn-none : (s : Seen) (depth : ℕ) (p : List ℕ) → Fine rel rule plan s → Turn rel rule plan d s s depth p 0
     turn-none s depth p fine = (went-most s s 0 (0 * choices d rule (depth + 1)) (went-none s fine) (omega arith), λ k h. absurd (omega arith))
 
@@ -155,3 +140,22 @@ module _ (rel : List (List ℕ)) (rule : LoadedRule) (plan : Plan) where
         subst (Went rel rule plan s u) (row-step row (choices d rule (depth + 1))) (went-on s t u (row * choices d rule (depth + 1)) (choices d rule (depth + 1)) went more),
         below-more _ _ (λ m h. grow-tried t u depth p (chosen d m) (more .grows) (tried m h)) (subst (λ x. With rel rule depth p x (Covered rel rule plan u)) is (tried-next rel rule plan origins depth k p long within (Covered rel rule plan u) covers)),
       )
+
+-- the first row at its place
+pub first-grouped : (rel : List (List ℕ)) (rule : LoadedRule) (plan : Plan) (d : Choices) → Origins rule plan → (s t : Seen) (k m : ℕ) → k ≡ m → 0 < rule .«row_count» → (o : Option Parting)
+    → BySome o (Went rel rule plan s t (choices d rule 1) × Covers rel rule plan t 1 (set (replicate 4 0) 0 k)) (Parting-at rel rule)
+    → BySome o (Went rel rule plan s t (choices d rule 1) × Tried rel rule plan t 0 (replicate 4 0) m) (Parting-at rel rule)
+first-grouped rel rule plan d origins s t k m is some None (went, covers) = (went, subst (λ x. With rel rule 0 (replicate 4 0) x (Covered rel rule plan t)) is (tried-next rel rule plan origins 0 k (replicate 4 0) (omega arith) some (Covered rel rule plan t) covers))
+first-grouped rel rule plan d origins s t k m is some (Some p) at = at
+
+module _ (rel : List (List ℕ)) (rule : LoadedRule) (plan : Plan) (d : Choices) where
+  -- one more choice for the first row was tried
+  pub turn-first : (s t u : Seen) (m : ℕ) → Turn rel rule plan d s t 0 (replicate 4 0) m → Went rel rule plan t u (choices d rule 1) × Tried rel rule plan u 0 (replicate 4 0) (chosen d m) → Turn rel rule plan d s u 0 (replicate 4 0) (m + 1)
+  turn-first s t u m (went, tried) (more, last) = (
+    subst (Went rel rule plan s u) (row-step rel rule plan d m (choices d rule 1)) (went-on rel rule plan s t u (m * choices d rule 1) (choices d rule 1) went more),
+    below-more _ _ (λ k h. grow-tried rel rule plan t u 0 (replicate 4 0) (chosen d k) (more .grows) (tried k h)) last,
+  )
+
+  -- each of its places was tried
+  pub all-grouped : (s t : Seen) (n : ℕ) → Picks rel d (length rel) → 0 < rule .«row_count» → d .count ≤ n → Turn rel rule plan d s t 0 (replicate 4 0) n → All-agree rel rule
+  all-grouped s t n picks some le (went, tried) = keeps-all rel rule plan t (replicate 4 0) (went .fine) (tried-all rel rule plan (Covered rel rule plan t) d 0 n (replicate 4 0) picks some le tried)

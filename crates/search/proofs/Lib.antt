@@ -10,3 +10,4 @@ mod Orders
 mod Sounds
 mod Breaks
 pub mod Rounds
+mod Begun

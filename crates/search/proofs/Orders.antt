@@ -1,8 +1,9 @@
 -- A rule with its rows in another order.
-use mathlib.Core.Path.{_≡_, sym, ap, subst, _∙_}
-use mathlib.Core.List.{List, []}
+use mathlib.Core.Path.{_≡_, refl, sym, ap, subst, _∙_}
+use mathlib.Core.List.{List, [], _∷_}
 use mathlib.Core.Logic.{_⊎_, inl, inr}
-use Prim.Native.Nat.{ℕ, _<_, _≤_}
+use Prim.Native.Nat.{ℕ, zero, suc, _<_, _≤_}
+use native.Mathlib.Omega.{arith}
 use lib.ListN.{length, getD}
 use Rattle.rules.specs.declared.loaded.CodeRow.{CodeRow}
 use Rattle.rules.specs.declared.loaded.LoadedRule.{LoadedRule}
@@ -64,3 +65,28 @@ module _ (rel : List (List ℕ)) (rule : LoadedRule) (rows : List CodeRow) where
       left = groupable .left;
       lefts = λ l h. known-there _ (groupable .lefts l h);
     }
+
+-- in their own order
+pub in-place : (rule : LoadedRule) → rule .«row_count» ≤ 4 → Rearranges rule rule (0 ∷ 1 ∷ 2 ∷ 3 ∷ [])
+in-place rule few = record { back = λ i h. (subst (λ x. x < rule .«row_count») (sym (at i (omega arith))) h, λ c k. ap (λ x. codeAt rule x c) (at i (omega arith))); each = λ j h. (j, h, λ c k. refl) }
+  where
+    at : (i : ℕ) → i < 4 → place (0 ∷ 1 ∷ 2 ∷ 3 ∷ []) i ≡ i
+    at zero h = refl
+    at (suc zero) h = refl
+    at (suc (suc zero)) h = refl
+    at (suc (suc (suc zero))) h = refl
+    at (suc (suc (suc (suc i)))) h = absurd (omega arith)
+
+-- and in another
+module _ (rel : List (List ℕ)) (own rule : LoadedRule) (places : List ℕ) (same : rule ≡ arranged own (rule .rows)) (order : Rearranges own rule places) where
+  re : Rearranges own (arranged own (rule .rows)) places
+  re = subst (λ x. Rearranges own x places) same order
+
+  pub groupable-order : Groupable own → Groupable rule
+  groupable-order groupable = subst Groupable (sym same) (groupable-there rel own (rule .rows) places re groupable)
+
+  pub keeps-order : All-agree rel rule → All-agree rel own
+  keeps-order agree = keeps-back rel own (rule .rows) places re (subst (All-agree rel) same agree)
+
+  pub parted-order : (p q a b : List ℕ) (r x y : ℕ) → Puts-back places (own .«row_count») p a → Puts-back places (own .«row_count») q b → Parted-at rel rule p q r x y → Parted-at rel own a b r x y
+  parted-order p q a b r x y pa qb at = parted-back rel own (rule .rows) places re p q a b r x y pa qb (subst (λ z. Parted-at rel z p q r x y) same at)

@@ -40,9 +40,6 @@ variable-code x v e = go (cases-lt x 16777216)
         same : (a b : ℕ) → Variable a ≡ Variable b → a ≡ b
         same a b z = cc
 
-pub term-left : (v : ℕ) → termOf (16777216 + v) ≡ Variable v
-term-left v = let back : 16777216 + v - 16777216 ≡ v = omega arith in term-variable (16777216 + v) (omega arith) ∙ ap Variable back
-
 module _ (l : LoadedRule) (codes : (i : ℕ) → i < l .«row_count» → (j : ℕ) → j < l .width → codeAt l i j < 16777280) where
   stands-code : (v : ℕ) → Stands v (meant l .pattern) → Known-code l (16777216 + v)
   stands-code v (row, m, n) =

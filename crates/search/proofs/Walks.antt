@@ -4,7 +4,7 @@ use mathlib.Core.List.{List, []}
 use mathlib.Core.Logic.{_⊎_, inl, inr}
 use Prim.Native.Nat.{ℕ, _+_, _<_, _≤_}
 use native.Mathlib.Omega.{arith}
-use lib.ListN.{length, getD, set}
+use lib.ListN.{length, getD, set, replicate}
 use Rattle.std.specs.Options.{Cases as BySome}
 use Rattle.std.specs.declared.option.Option.{Option}
 use Rattle.std.specs.declared.option.Option.the-variants.{Some, None}
@@ -85,3 +85,12 @@ At rel rule s = Split-at rel rule (s .places .rows) (s .difference .pair) (s .di
 pub join-start : (rel : List (List ℕ)) (rule : LoadedRule) (o : Option Split) (p : List ℕ) → BySome o (From rel rule 0 p (Joins rule)) (At rel rule) → BySome o (All-join rel rule) (At rel rule)
 join-start rel rule None p joins = λ f placed. joins f (λ i h. absurd (omega arith)) (λ i _ h. placed i h)
 join-start rel rule (Some s) p splits = splits
+
+-- the first row at its place
+pub first-placed : (rel : List (List ℕ)) (rule : LoadedRule) (plan : Plan) → Origins rule plan → (k m : ℕ) → k ≡ m → 0 < rule .«row_count» → (o : Option Split) → BySome o (From rel rule 1 (set (replicate 8 0) 0 k) (Joins rule)) (At rel rule) → BySome o (With rel rule 0 (replicate 8 0) m (Joins rule)) (At rel rule)
+first-placed rel rule plan origins k m is some None joins = subst (λ x. With rel rule 0 (replicate 8 0) x (Joins rule)) is (tried-next rel rule plan origins 0 k (replicate 8 0) (omega arith) some (Joins rule) joins)
+first-placed rel rule plan origins k m is some (Some s) splits = splits
+
+-- each of its places was tried
+pub all-placed : (rel : List (List ℕ)) (rule : LoadedRule) (plan : Plan) (d : Choices) (n : ℕ) → Picks rel d (length rel) → 0 < rule .«row_count» → d .count ≤ n → ((m : ℕ) → m < n → With rel rule 0 (replicate 8 0) (chosen d m) (Joins rule)) → All-join rel rule
+all-placed rel rule plan d n picks some le tried f placed = tried-all rel rule plan (Joins rule) d 0 n (replicate 8 0) picks some le tried f (λ i h. absurd (omega arith)) (λ i _ h. placed i h)

@@ -2,3 +2,4 @@ pub mod Relations
 pub mod Spots
 pub mod Placings
 pub mod Seens
+pub mod Progress

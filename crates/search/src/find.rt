@@ -1,26 +1,24 @@
 // Where the rows of a relation break a rule of a book.
 ghost use mathlib.Core.Path.{_≡_};
-ghost use Prim.Native.Nat.{ℕ, _+_, _<_, _≤_};
-ghost use lib.ListN.{length, getD};
+ghost use Prim.Native.Nat.{_<_, _≤_};
+ghost use lib.ListN.{length};
 ghost use Rattle.std.specs.Options.{Cases as BySome};
-ghost use Rattle.rules.specs.declared.term.Kind.the-variants.{Functional, Equality};
-ghost use Rattle.rules.specs.Loaded.{meant, Of-book};
-ghost use Rattle.search.specs.Placings.{place, Picks, Sound};
+ghost use Rattle.rules.specs.declared.term.Kind.the-variants.{Equality};
+ghost use Rattle.rules.specs.Loaded.{meant};
+ghost use Rattle.search.specs.Placings.{Picks, Sound};
 ghost use Rattle.search.specs.Spots.{Found, Looked, Looked-at, Quiet};
 use crate::choices::Choices;
 use crate::choices::choices_of;
-use crate::order::find_parting_in_order;
+use crate::look::begin;
+use crate::look::look_from;
 use crate::relation::Relation;
-use crate::seen::Parting;
 use crate::seen::Seen;
 use crate::spot::Spot;
-use crate::walk::Split;
+use crate::spots::spot_of;
 use crate::walk::find_split;
 use rules::book::Book;
 use rules::doubling::load_doubled;
-use rules::load::load;
 use rules::loaded::LoadedRule;
-use rules::term::Kind;
 
 // What a search works in. Nothing is asked of what it holds before, so one serves for any number of searches.
 #[derive(Clone, Copy)]
@@ -45,56 +43,6 @@ impl Scratch {
     }
 }
 
-// The spot of a placing: the places of the pattern's rows, then 0.
-fn spot_of(number: usize, split: &Split, count: usize) -> Spot
-    requires { ⌜ count ≤ 8 ⌝ }
-    ensures rule { λ r. ⌜ r .rule ≡ number ⌝ }
-    ensures pair { λ r. ⌜ r .pair ≡ now (split .entry) .difference .pair ⌝ }
-    ensures one { λ r. ⌜ r .one ≡ now (split .entry) .difference .one ⌝ }
-    ensures other { λ r. ⌜ r .other ≡ now (split .entry) .difference .other ⌝ }
-    ensures here { λ r. ⌜ ((i : ℕ) → i < count → getD (r .places) i 0 ≡ place (now (split .entry) .places .rows) i) ⌝ }
-    ensures rest { λ r. ⌜ ((i : ℕ) → count ≤ i → getD (r .places) i 0 ≡ 0) ⌝ }
-{
-    let mut places: [usize; 8] = [0; 8];
-    for i in 0..count {
-        places[i] = split.places.rows[i];
-    }
-    let difference = split.difference;
-    Spot {
-        rule: number,
-        pair: difference.pair,
-        places,
-        one: difference.one,
-        other: difference.other,
-    }
-}
-
-// The spot of two placings: the places of the first, those of the second, then 0.
-fn joint_spot(number: usize, parting: &Parting, count: usize) -> Spot
-    requires { ⌜ count ≤ 4 ⌝ }
-    ensures rule { λ r. ⌜ r .rule ≡ number ⌝ }
-    ensures pair { λ r. ⌜ r .pair ≡ now (parting .entry) .difference .pair ⌝ }
-    ensures one { λ r. ⌜ r .one ≡ now (parting .entry) .difference .one ⌝ }
-    ensures other { λ r. ⌜ r .other ≡ now (parting .entry) .difference .other ⌝ }
-    ensures here { λ r. ⌜ ((i : ℕ) → i < count → getD (r .places) i 0 ≡ place (now (parting .entry) .first .rows) i) ⌝ }
-    ensures there { λ r. ⌜ ((i : ℕ) → i < count → getD (r .places) (count + i) 0 ≡ place (now (parting .entry) .second .rows) i) ⌝ }
-    ensures rest { λ r. ⌜ ((i : ℕ) → count + count ≤ i → getD (r .places) i 0 ≡ 0) ⌝ }
-{
-    let mut places: [usize; 8] = [0; 8];
-    for i in 0..count {
-        places[i] = parting.first.rows[i] as usize;
-        places[count + i] = parting.second.rows[i] as usize;
-    }
-    let difference = parting.difference;
-    Spot {
-        rule: number,
-        pair: difference.pair,
-        places,
-        one: difference.one,
-        other: difference.other,
-    }
-}
-
 // One placing at a time.
 fn look_equal<R: Relation>(
     relation: &R,
@@ -110,32 +58,6 @@ fn look_equal<R: Relation>(
 {
     match find_split(relation, rule, choices, tests) {
         Some(split) => Some(spot_of(number, &split, rule.row_count)),
-        None => None,
-    }
-}
-
-// Placings grouped by their left numbers.
-fn look_grouped<R: Relation>(
-    relation: &R,
-    rule: &LoadedRule,
-    number: usize,
-    choices: &Choices,
-    scratch: &mut Scratch,
-) -> Option<Spot>
-    requires of { ⌜ Of-book (now rule) ⌝ }
-    requires kind { ⌜ now rule .kind ≡ Functional ⌝ }
-    requires few { ⌜ length (meaning (now relation) .rows) ≤ 8 ⌝ }
-    requires picks { ⌜ Picks (meaning (now relation) .rows) (now choices) (length (meaning (now relation) .rows)) ⌝ }
-    ensures { λ r. ⌜ Looked (meaning (now (relation .entry)) .rows) (meant (now (rule .entry))) number r ⌝ }
-{
-    match find_parting_in_order(
-        relation,
-        rule,
-        choices,
-        &mut scratch.seen,
-        &mut scratch.tests,
-    ) {
-        Some(parting) => Some(joint_spot(number, &parting, rule.row_count)),
         None => None,
     }
 }
@@ -157,33 +79,13 @@ fn look_doubled<R: Relation, B: Book>(
     }
 }
 
-fn look<R: Relation, B: Book>(
+// A look at one rule that walks through the placings of its doubled form, one by one: slow, and a measure for others.
+pub fn look_plainly<R: Relation, B: Book>(
     relation: &R,
     book: &B,
-    number: usize,
-    choices: &Choices,
+    rule: usize,
     scratch: &mut Scratch,
 ) -> Option<Spot>
-    requires { ⌜ Picks (R·Relation .meaning (now relation) .rows) (now choices) (length (R·Relation .meaning (now relation) .rows)) ⌝ }
-    ensures { λ r. ⌜ Looked-at (R·Relation .meaning (now (relation .entry)) .rows) (B·Book .meaning (now (book .entry)) .rules) number r ⌝ }
-{
-    match load(book, number) {
-        Some(rule) => match rule.kind {
-            Kind::Equality => look_equal(relation, &rule, number, choices, &mut scratch.tests),
-            Kind::Functional => {
-                if relation.rows() <= 8 {
-                    look_grouped(relation, &rule, number, choices, scratch)
-                } else {
-                    look_doubled(relation, book, number, choices, &mut scratch.tests)
-                }
-            }
-        },
-        None => None,
-    }
-}
-
-// A look at one rule that walks through the placings of its doubled form, one by one: slow, and a measure for others.
-pub fn look_plainly<R: Relation, B: Book>(relation: &R, book: &B, rule: usize, scratch: &mut Scratch) -> Option<Spot>
     ensures { λ r. ⌜ Looked-at (R·Relation .meaning (now (relation .entry)) .rows) (B·Book .meaning (now (book .entry)) .rules) rule r ⌝ }
 {
     let choices = choices_of(relation);
@@ -210,9 +112,20 @@ pub fn find_break<R: Relation, B: Book>(
     let mut found = None;
     'search: for turn in 0..most {
         let number = (start + turn) % count;
-        if let Some(spot) = look(relation, book, number, &choices, scratch) {
-            found = Some(spot);
-            break 'search;
+        if let Some(look) = begin(relation, book, number, &mut scratch.seen) {
+            for m in 0..choices.count {
+                if let Some(spot) = look_from(
+                    relation,
+                    &look,
+                    &choices,
+                    m,
+                    &mut scratch.seen,
+                    &mut scratch.tests,
+                ) {
+                    found = Some(spot);
+                    break 'search;
+                }
+            }
         }
     }
     found

@@ -2,22 +2,18 @@
 ghost use mathlib.Core.Path.{_≡_};
 ghost use mathlib.Core.Bool.{true};
 ghost use Prim.Native.Nat.{ℕ, _+_, _<_, _≤_};
-ghost use lib.ListN.{length};
+ghost use lib.ListN.{length, replicate};
 ghost use Rattle.std.specs.Options.{Cases as BySome};
-ghost use Rattle.search.specs.Placings.{filled, place, Groupable, Planned, Bounded, Fitting, Picks, choices as ways, Lands, Landed, All-agree};
-ghost use Rattle.search.specs.Seens.{Covers, Fine, Parting-at, Went};
-use crate::bounds::bound_of;
+ghost use Rattle.search.specs.Placings.{filled, place, Groupable, Planned, Bounded, Fitting, Picks, choices as ways, Lands, Landed, chosen};
+ghost use Rattle.search.specs.Seens.{Covers, Fine, Parting-at, Tried, Went};
 use crate::cell::cell;
 use crate::choices::Choices;
 use crate::choices::row_at;
 use crate::plan::Plan;
-use crate::plan::plan_of;
-use crate::quiet::is_quiet;
 use crate::relation::Relation;
 use crate::seen::Parting;
 use crate::seen::Placing;
 use crate::seen::Seen;
-use crate::seen::clear;
 use crate::seen::is_covered;
 use crate::seen::read;
 use crate::seen::settle;
@@ -119,37 +115,33 @@ fn extend<R: Relation>(
     None
 }
 
-// Two placings that break the rule, or none if any two that agree on the left agree on the right.
-pub(crate) fn find_parting<R: Relation>(
+// Sends the first row of the pattern to choice `m`, and the further ones wherever they fit.
+pub(crate) fn try_group<R: Relation>(
     relation: &R,
     rule: &LoadedRule,
+    plan: &Plan,
     choices: &Choices,
+    bound: usize,
+    m: usize,
     seen: &mut Seen,
     tests: &mut u64,
 ) -> Option<Parting>
     requires groupable { ⌜ Groupable (now rule) ⌝ }
+    requires plan { ⌜ Planned (now rule) (now plan) ⌝ }
+    requires bound { ⌜ Bounded (now rule) bound ⌝ }
     requires few { ⌜ length (meaning (now relation) .rows) ≤ 8 ⌝ }
     requires picks { ⌜ Picks (meaning (now relation) .rows) (now choices) (length (meaning (now relation) .rows)) ⌝ }
-    ensures { λ r. ⌜ BySome r (All-agree (meaning (now (relation .entry)) .rows) (now (rule .entry))) (Parting-at (meaning (now (relation .entry)) .rows) (now (rule .entry))) ⌝ }
+    requires m { ⌜ m < now choices .count ⌝ }
+    requires fitting { ⌜ Fitting (meaning (now relation) .rows) (now rule) ⌝ }
+    requires fine { ⌜ Fine (meaning (now relation) .rows) (now rule) (now plan) (now seen) ⌝ }
+    requires room { ⌜ now seen .used + ways (now choices) (now rule) 1 ≤ 4096 ⌝ }
+    ensures { λ r. ⌜ BySome r (Went (meaning (now (relation .entry)) .rows) (now (rule .entry)) (now (plan .entry)) (now (seen .entry)) (now (seen .exit)) (ways (now (choices .entry)) (now (rule .entry)) 1) × Tried (meaning (now (relation .entry)) .rows) (now (rule .entry)) (now (plan .entry)) (now (seen .exit)) 0 (replicate 4 0) (chosen (now (choices .entry)) m)) (Parting-at (meaning (now (relation .entry)) .rows) (now (rule .entry))) ⌝ }
 {
-    if relation.width() != rule.width {
-        return None;
+    let mut next = Placing { rows: [0; 4] };
+    next.rows[0] = row_at(choices, m) as u8;
+    *tests = tests.wrapping_add(1);
+    if fits(relation, rule, plan, &next, 0) {
+        return extend(relation, rule, plan, choices, bound, 1, next, seen, tests);
     }
-    let plan = plan_of(rule);
-    if is_quiet(relation, rule, &plan) {
-        return None;
-    }
-    clear(seen);
-    let bound = bound_of(rule);
-    extend(
-        relation,
-        rule,
-        &plan,
-        choices,
-        bound,
-        0,
-        Placing { rows: [0; 4] },
-        seen,
-        tests,
-    )
+    None
 }

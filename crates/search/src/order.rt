@@ -4,15 +4,8 @@ ghost use mathlib.Core.Path.{_≡_};
 ghost use mathlib.Core.Bool.{true};
 ghost use Prim.Native.Nat.{ℕ, _<_, _≤_};
 ghost use lib.ListN.{length, getD};
-ghost use Rattle.std.specs.Options.{Cases as BySome};
-ghost use Rattle.search.specs.Placings.{Groupable, Same-row, Somewhere, Rearranges, Puts-back, Picks, All-agree};
-ghost use Rattle.search.specs.Seens.{Parting-at};
-use crate::choices::Choices;
-use crate::grouped::find_parting;
-use crate::relation::Relation;
-use crate::seen::Parting;
+ghost use Rattle.search.specs.Placings.{arranged, Groupable, Same-row, Somewhere, Rearranges, Puts-back};
 use crate::seen::Placing;
-use crate::seen::Seen;
 use rules::loaded::CodeRow;
 use rules::loaded::LoadedRule;
 
@@ -121,7 +114,7 @@ fn is_arranged(rule: &LoadedRule, other: &LoadedRule, places: &[usize; 4]) -> bo
 }
 
 // The placing of the rule's own rows.
-fn put_back(placing: &Placing, places: &[usize; 4], count: usize) -> Placing
+pub(crate) fn put_back(placing: &Placing, places: &[usize; 4], count: usize) -> Placing
     requires count { ⌜ count ≤ 4 ⌝ }
     requires places { ⌜ ((i : ℕ) → i < count → getD (now places) i 0 < 4) ⌝ }
     ensures { λ r. ⌜ Puts-back (now (places .entry)) count (now (placing .entry) .rows) (r .rows) ⌝ }
@@ -133,36 +126,33 @@ fn put_back(placing: &Placing, places: &[usize; 4], count: usize) -> Placing
     Placing { rows }
 }
 
-// Two placings that break the rule, or none if any two that agree on the left agree on the right: the rows that matter
-// are placed first.
-pub(crate) fn find_parting_in_order<R: Relation>(
-    relation: &R,
-    rule: &LoadedRule,
-    choices: &Choices,
-    seen: &mut Seen,
-    tests: &mut u64,
-) -> Option<Parting>
-    requires groupable { ⌜ Groupable (now rule) ⌝ }
-    requires few { ⌜ length (meaning (now relation) .rows) ≤ 8 ⌝ }
-    requires picks { ⌜ Picks (meaning (now relation) .rows) (now choices) (length (meaning (now relation) .rows)) ⌝ }
-    ensures { λ r. ⌜ BySome r (All-agree (meaning (now (relation .entry)) .rows) (now (rule .entry))) (Parting-at (meaning (now (relation .entry)) .rows) (now (rule .entry))) ⌝ }
+// The rule with its rows in that order, and where each has gone.
+#[derive(Clone, Copy)]
+pub struct Ordered {
+    pub rule: LoadedRule,
+    pub places: [usize; 4],
+}
+
+pub(crate) fn in_order(rule: &LoadedRule) -> Ordered
+    requires { ⌜ Groupable (now rule) ⌝ }
+    ensures same { λ r. ⌜ r .rule ≡ arranged (now (rule .entry)) (r .rule .rows) ⌝ }
+    ensures order { λ r. ⌜ Rearranges (now (rule .entry)) (r .rule) (r .places) ⌝ }
 {
-    if rule.row_count == 1 {
-        return find_parting(relation, rule, choices, seen, tests);
+    if rule.row_count > 1 {
+        let arrangement = arrangement_of(rule);
+        let rows = arrangement.rows;
+        let places = arrangement.places;
+        let mut other = *rule;
+        other.rows = rows;
+        if is_arranged(rule, &other, &places) {
+            return Ordered {
+                rule: other,
+                places,
+            };
+        }
     }
-    let arrangement = arrangement_of(rule);
-    let rows = arrangement.rows;
-    let mut other = *rule;
-    other.rows = rows;
-    if !is_arranged(rule, &other, &arrangement.places) {
-        return find_parting(relation, rule, choices, seen, tests);
-    }
-    match find_parting(relation, &other, choices, seen, tests) {
-        Some(parting) => Some(Parting {
-            first: put_back(&parting.first, &arrangement.places, rule.row_count),
-            second: put_back(&parting.second, &arrangement.places, rule.row_count),
-            difference: parting.difference,
-        }),
-        None => None,
+    Ordered {
+        rule: *rule,
+        places: [0, 1, 2, 3],
     }
 }

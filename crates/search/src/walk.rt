@@ -3,9 +3,9 @@ ghost use mathlib.Core.Path.{_≡_};
 ghost use mathlib.Core.Bool.{true};
 ghost use mathlib.Core.List.{List};
 ghost use Prim.Native.Nat.{ℕ, _+_, _-_, _<_, _≤_};
-ghost use lib.ListN.{length, getD};
+ghost use lib.ListN.{length, replicate};
 ghost use Rattle.std.specs.Options.{Cases as BySome};
-ghost use Rattle.search.specs.Placings.{value, filled, place, Sound, Rows-fit, Planned, Fitting, Picks, Lands, Landed, From, Joins, Splits, All-join, Split-at};
+ghost use Rattle.search.specs.Placings.{value, filled, place, Sound, Rows-fit, Planned, Fitting, Picks, Lands, Landed, From, With, chosen, Joins, Splits, All-join, Split-at};
 use crate::cell::cell;
 use crate::choices::Choices;
 use crate::choices::row_at;
@@ -136,6 +136,31 @@ fn walk_from<R: Relation>(
                 return Some(split);
             }
         }
+    }
+    None
+}
+
+// Sends the first row of the pattern to choice `m`, and the further ones wherever they fit.
+pub(crate) fn try_place<R: Relation>(
+    relation: &R,
+    rule: &LoadedRule,
+    plan: &Plan,
+    choices: &Choices,
+    m: usize,
+    tests: &mut u64,
+) -> Option<Split>
+    requires sound { ⌜ Sound (now rule) ⌝ }
+    requires plan { ⌜ Planned (now rule) (now plan) ⌝ }
+    requires picks { ⌜ Picks (meaning (now relation) .rows) (now choices) (length (meaning (now relation) .rows)) ⌝ }
+    requires m { ⌜ m < now choices .count ⌝ }
+    requires fitting { ⌜ Fitting (meaning (now relation) .rows) (now rule) ⌝ }
+    ensures { λ r. ⌜ BySome r (With (meaning (now (relation .entry)) .rows) (now (rule .entry)) 0 (replicate 8 0) (chosen (now (choices .entry)) m) (Joins (now (rule .entry)))) (λ s. Split-at (meaning (now (relation .entry)) .rows) (now (rule .entry)) (s .places .rows) (s .difference .pair) (s .difference .one) (s .difference .other)) ⌝ }
+{
+    let mut next = Places { rows: [0; 8] };
+    next.rows[0] = row_at(choices, m);
+    *tests = tests.wrapping_add(1);
+    if lands(relation, rule, plan, &next, 0) {
+        return walk_from(relation, rule, plan, choices, 1, next, tests);
     }
     None
 }

@@ -8,9 +8,13 @@ use std::error::AnyError;
 
 // The codes of the variables 0 to 4.
 const A: u32 = 16777216;
+
 const B: u32 = 16777217;
+
 const C: u32 = 16777218;
+
 const D: u32 = 16777219;
+
 const E: u32 = 16777220;
 
 const TOP: u32 = 4294967295;
@@ -39,9 +43,27 @@ fn print_functional(rt: &LibcRuntime) -> Result<(), AnyError> {
     print_search(rt, "no rows", &words, 2, &[])?;
     print_search(rt, "one row", &words, 2, &[row(1, 7)])?;
     print_search(rt, "a row twice", &words, 2, &[row(1, 7), row(1, 7)])?;
-    print_search(rt, "one left number, two right ones", &words, 2, &[row(1, 7), row(2, 7), row(1, 8)])?;
-    print_search(rt, "least and greatest numbers", &words, 2, &[row(0, 0), row(0, TOP)])?;
-    print_search(rt, "greatest numbers kept", &words, 2, &[row(TOP, TOP), row(0, TOP)])?;
+    print_search(
+        rt,
+        "one left number, two right ones",
+        &words,
+        2,
+        &[row(1, 7), row(2, 7), row(1, 8)],
+    )?;
+    print_search(
+        rt,
+        "least and greatest numbers",
+        &words,
+        2,
+        &[row(0, 0), row(0, TOP)],
+    )?;
+    print_search(
+        rt,
+        "greatest numbers kept",
+        &words,
+        2,
+        &[row(TOP, TOP), row(0, TOP)],
+    )?;
     print_search(rt, "another width", &words, 3, &[row(1, 7), row(1, 8)])?;
     print_search(rt, "a width past eight", &words, 9, &[row(1, 7), row(1, 8)])
 }
@@ -52,7 +74,13 @@ fn print_equality(rt: &LibcRuntime) -> Result<(), AnyError> {
     print_search(rt, "two variables on one number", &back, 2, &[row(3, 3)])?;
     print_search(rt, "there and back", &back, 2, &[row(1, 2), row(2, 1)])?;
     let steps = [2, 1, 2, 2, A, B, B, C, 0, 1, A, C];
-    print_search(rt, "two rows of a pattern on one row", &steps, 2, &[row(5, 5)])?;
+    print_search(
+        rt,
+        "two rows of a pattern on one row",
+        &steps,
+        2,
+        &[row(5, 5)],
+    )?;
     print_search(rt, "and then on two", &steps, 2, &[row(5, 5), row(5, 6)])?;
     let never = [2, 1, 2, 1, 1, 2, 0, 1, 3, 4];
     print_search(rt, "constants that match", &never, 2, &[row(1, 2)])?;

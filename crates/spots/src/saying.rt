@@ -54,5 +54,8 @@ pub fn print_turns(
     let relation = Table::new(rows, 2);
     let mut scratch = Scratch::new();
     print!(rt, "{turns} turns from rule {first}: ")?;
-    print_found(rt, find_break(&relation, &sheet, first, turns, &mut scratch))
+    print_found(
+        rt,
+        find_break(&relation, &sheet, first, turns, &mut scratch),
+    )
 }

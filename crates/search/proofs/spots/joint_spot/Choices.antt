@@ -2,7 +2,7 @@ use mathlib.Core.Path.{_≡_}
 use Prim.Native.Nat.{ℕ, _+_, _<_, _≤_}
 use lib.ListN.{length, getD}
 use Rattle.search.specs.Placings.{place}
-use Rattle.search.proofs.find.joint_spot.Given as given
+use Rattle.search.proofs.spots.joint_spot.Given as given
 
 abbrev pub Inv-loop-i : given.InvT-loop-i
 Inv-loop-i l =
