@@ -18,6 +18,11 @@ use Rattle.law.specs.Stored.{stored}
 use Rattle.law.specs.Calls.{View, Blank, Going, fresh, Done, Refused, Starts, begun, not-blank, no-rule, targets-width}
 use Rattle.law.proofs.Starting.{Fit, starts-fit}
 use Rattle.law.proofs.Shown.{alone-counts, few-symbols}
+use Rattle.std.specs.declared.option.Option.the-variants.{Some}
+use Rattle.trial.specs.declared.fault.TrialFault.{TrialFault}
+use Rattle.trial.specs.declared.fault.TrialFault.the-variants.{NotBlank, NoRule, WidthsDiffer, StillBlank}
+use Rattle.trial.specs.Faults.{refused}
+use Rattle.trial.specs.Stepping.{Start-due}
 use Rattle.trial.specs.declared.held.Held.{Held}
 use Rattle.trial.specs.Views.{rows-of, shows-of, groups-of, going, view}
 
@@ -75,3 +80,10 @@ module _ (b targets : BookMeaning) (k : ℕ) (h : Held) where
 
   pub start-apart : h .begun ≡ false → k < length (targets .rules) → targets .width ≢ b .width → Starts b targets k (view h) (Refused 9 0) (view h)
   start-apart e l d = subst (λ (z : View). Starts b targets k z (Refused 9 0) z) (sym (view-blank h e)) (targets-width l d)
+
+-- each refusal of a start leaves the trial as it was
+pub start-refused : (b targets : BookMeaning) (k : ℕ) (h : Held) (e : TrialFault) → Start-due b targets k h (Some e) → Starts b targets k (view h) (refused e) (view h)
+start-refused b targets k h NotBlank due = start-taken b targets k h due
+start-refused b targets k h (NoRule j) (e, l, same) = subst (λ (i : ℕ). Starts b targets k (view h) (Refused 8 i) (view h)) (sym same) (start-past b targets k h e l)
+start-refused b targets k h WidthsDiffer (e, l, d) = start-apart b targets k h e l d
+start-refused b targets k h StillBlank due = absurd due

@@ -1,6 +1,6 @@
 -- What an advance and a finish leave, as the law sees it.
 use mathlib.Core.Path.{_≡_, refl, sym, ap, subst, _∙_}
-use mathlib.Core.Bool.{Bool, true, false, cond, not}
+use mathlib.Core.Bool.{Bool, true, false, cond}
 use mathlib.Core.List.{List}
 use mathlib.Core.Logic.{_≢_, _⊎_, inl, inr}
 use Prim.Native.Nat.{ℕ, _+_, _<_, _≤_}
@@ -16,6 +16,13 @@ use Rattle.law.specs.declared.outcome.Verdict.the-variants.{Void, Follows, Fail
 use Rattle.law.specs.Groups.{group-count}
 use Rattle.law.specs.Runs.{Merges, Ended, clash-met, pairs-met, pairs-apart}
 use Rattle.law.specs.Calls.{Started, View, Blank, Going, moved, Answer, Made, Refused, Advances, still-blank, advance-width, stopped, spent, rests, clashes, Finished, Finishes, never-begun, finish-width, clashed-before, ended}
+use Rattle.std.specs.Options.{isSome}
+use Rattle.std.specs.declared.option.Option.{Option}
+use Rattle.std.specs.declared.option.Option.the-variants.{Some, None}
+use Rattle.trial.specs.declared.fault.TrialFault.{TrialFault}
+use Rattle.trial.specs.declared.fault.TrialFault.the-variants.{NotBlank, NoRule, WidthsDiffer, StillBlank}
+use Rattle.trial.specs.Faults.{refused}
+use Rattle.trial.specs.Stepping.{Advance-due}
 use Rattle.trial.specs.declared.held.Held.{Held}
 use Rattle.trial.specs.Views.{rows-of, shows-of, groups-of, going, view}
 use Rattle.trial.specs.Merging.{after, Merged-on, Stopped}
@@ -24,14 +31,6 @@ use Rattle.trial.proofs.Begins.{view-blank, view-going}
 
 pub false-true : false ≡ true → ⊥
 false-true e = let z : _≡_ {A = ℕ} 0 1 = cc in omega arith
-
-pub not-true : (k : Bool) → not k ≡ true → k ≡ false
-not-true true e = absurd (false-true e)
-not-true false e = refl
-
-pub not-false : (k : Bool) → not k ≡ false → k ≡ true
-not-false true e = refl
-not-false false e = absurd (false-true (sym e))
 
 module _ (rules : List Rule) (h h′ : Held) (m : ℕ) (c : Bool) (on : Merged-on rules h h′ m c) where
   rows-same : rows-of h′ ≡ rows-of h
@@ -117,3 +116,21 @@ module _ (b : BookMeaning) (h : Held) where
     finish-ran Clash Void (on, less, clash) judged = absurd judged
     finish-ran Clash Follows (on, less, clash) judged = at-end true Follows on (clash-met clash)
     finish-ran Clash Fails (on, less, clash) judged = absurd (false-true (sym (judged .0) ∙ clashed-is true on))
+
+-- each refusal of an advance leaves the trial as it was, and a finish is void there
+pub advance-refused : (b : BookMeaning) (n : ℕ) (h : Held) (e : TrialFault) → Advance-due b h (Some e) → Advances b n (view h) (refused e) (view h)
+advance-refused b n h NotBlank due = absurd due
+advance-refused b n h (NoRule j) due = absurd due
+advance-refused b n h WidthsDiffer (e, d) = advance-apart b n h e d
+advance-refused b n h StillBlank due = advance-blank b n h due
+
+pub finish-refused : (b : BookMeaning) (h : Held) (o : Option TrialFault) → isSome o ≡ true → Advance-due b h o → Finishes b (view h) (record { verdict = Void; left = view h })
+finish-refused b h None e due = absurd (false-true e)
+finish-refused b h (Some NotBlank) e due = absurd due
+finish-refused b h (Some (NoRule j)) e due = absurd due
+finish-refused b h (Some WidthsDiffer) e (begun, d) = finish-apart b h begun d
+finish-refused b h (Some StillBlank) e due = finish-blank b h due
+
+pub not-refused : (b : BookMeaning) (h : Held) (o : Option TrialFault) → isSome o ≡ false → Advance-due b h o → Advance-due b h None
+not-refused b h None e due = due
+not-refused b h (Some f) e due = absurd (false-true (sym e))

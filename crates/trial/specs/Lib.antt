@@ -2,6 +2,7 @@ pub mod Faults
 pub mod Views
 pub mod Merging
 pub mod Judging
+pub mod Stepping
 pub mod Tells
 pub mod Seen
 pub mod Replays

@@ -15,7 +15,8 @@ use Rattle.trial.specs.declared.request.Request.the-variants.{Start as Request
 use Rattle.trial.specs.declared.replay.Outcome.{Outcome}
 use Rattle.trial.specs.declared.replay.Outcome.the-variants.{Going, Finished}
 use Rattle.trial.specs.Tells.{told}
-use Rattle.trial.specs.Seen.{seen, refused}
+use Rattle.trial.specs.Faults.{refused}
+use Rattle.trial.specs.Seen.{seen}
 
 -- the call that a request asks for
 abbrev pub asked : {T : Type 0} → (T → BookMeaning) → Request T → Call

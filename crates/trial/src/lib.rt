@@ -10,4 +10,5 @@ pub mod replay;
 pub mod reply;
 pub mod request;
 mod rows;
+mod stepping;
 pub mod trial;

@@ -2,8 +2,11 @@
 ghost use mathlib.Core.Path.{_≡_};
 ghost use mathlib.Core.Bool.{false};
 ghost use Prim.Native.Nat.{_+_, _<_, _≤_, min, max};
+ghost use lib.ListN.{length};
+ghost use Rattle.std.specs.Options.{Cases as BySome};
 ghost use Rattle.law.specs.Stored.{replaced};
-ghost use Rattle.trial.specs.Views.{groups-of};
+ghost use Rattle.search.specs.Spots.{Found, Quiet};
+ghost use Rattle.trial.specs.Views.{groups-of, rows-now};
 ghost use Rattle.trial.specs.Merging.{after, Stopped};
 use crate::held::Held;
 use crate::rows::CurrentRows;
@@ -43,6 +46,14 @@ fn merge(held: Held, spot: &Spot) -> Held
     }
 }
 
+// An open spot of the current rows, by a rule from where the search goes on; none after a full quiet round.
+fn look<B: Book>(held: &Held, book: &B, scratch: &mut Scratch) -> Option<Spot>
+    ensures { λ r. ⌜ BySome r (Quiet (rows-now (now (held .entry))) (meaning (now (book .entry)) .rules) (now (held .entry) .at) (length (meaning (now (book .entry)) .rules))) (Found (rows-now (now (held .entry))) (meaning (now (book .entry)) .rules) (now (held .entry) .at) (length (meaning (now (book .entry)) .rules))) ⌝ }
+{
+    let turns = book.count();
+    find_break(held, book, held.at, turns, scratch)
+}
+
 // The record after merging, how many merges were made, and why it stopped.
 #[derive(Clone, Copy)]
 pub struct Ran {
@@ -57,7 +68,6 @@ pub(crate) fn run<B: Book>(start: Held, book: &B, n: usize) -> Ran
     requires open { ⌜ start .clashed ≡ false ⌝ }
     ensures { λ r. ⌜ Stopped (meaning (now (book .entry)) .rules) n start (r .held) (r .made) (r .stop) ⌝ }
 {
-    let turns = book.count();
     let mut scratch = Scratch::new();
     let mut held = start;
     let mut made = 0;
@@ -65,7 +75,7 @@ pub(crate) fn run<B: Book>(start: Held, book: &B, n: usize) -> Ran
         if made == n {
             break Stop::Spent;
         }
-        let Some(spot) = find_break(&held, book, held.at, turns, &mut scratch) else {
+        let Some(spot) = look(&held, book, &mut scratch) else {
             break Stop::Rest;
         };
         if spot.one.max(spot.other) < 16777216 {

@@ -4,18 +4,17 @@ ghost use mathlib.Core.Path.{_≡_};
 ghost use Rattle.law.specs.Calls.{Advance, Advances, Blank, Finishes, Start, Starts};
 ghost use Rattle.law.specs.Standing.{Call-promised, Finish-promised};
 ghost use Rattle.trial.specs.Tells.{told};
-ghost use Rattle.trial.specs.Seen.{seen, started, advanced, Unchanged};
+ghost use Rattle.trial.specs.Faults.{started, advanced};
+ghost use Rattle.trial.specs.Seen.{seen, Unchanged};
 use super::Trial;
 use crate::fault::TrialFault;
 use crate::finished::Finished;
 use crate::fresh::blank;
-use crate::fresh::fresh;
-use crate::judging::judge;
-use crate::merging::run;
+use crate::stepping::advance_held;
+use crate::stepping::finish_held;
+use crate::stepping::start_held;
 use law::outcome::Stop;
-use law::outcome::Verdict;
 use rules::book::Book;
-use rules::doubling::load_doubled;
 
 impl Trial {
     // No target yet.
@@ -36,20 +35,13 @@ impl Trial {
         ensures unchanged { λ r. ⌜ Unchanged r (now (self .entry)) (now (self .exit)) ⌝ }
         ensures promised { λ r. ⌜ Call-promised (B·Book .meaning (now (book .entry))) (Start (T·Book .meaning (now (targets .entry))) number) (seen (now (self .entry))) (started r) (seen (now (self .exit))) ⌝ }
     {
-        if self.held.begun {
-            return Err(TrialFault::NotBlank);
+        match start_held(&self.held, book, targets, number) {
+            Ok(held) => {
+                self.held = held;
+                Ok(())
+            }
+            Err(fault) => Err(fault),
         }
-        if number >= targets.count() {
-            return Err(TrialFault::NoRule(number));
-        }
-        if targets.width() != book.width() {
-            return Err(TrialFault::WidthsDiffer);
-        }
-        let Some(target) = load_doubled(targets, number) else {
-            return Err(TrialFault::NoRule(number));
-        };
-        self.held = fresh(target);
-        Ok(())
     }
 
     // Merges one open spot at a time, and tells how many merges it made and why it stopped: n are made, no open spot is
@@ -59,18 +51,13 @@ impl Trial {
         ensures unchanged { λ r. ⌜ Unchanged r (now (self .entry)) (now (self .exit)) ⌝ }
         ensures promised { λ r. ⌜ Call-promised (meaning (now (book .entry))) (Advance n) (seen (now (self .entry))) (advanced r) (seen (now (self .exit))) ⌝ }
     {
-        if !self.held.begun {
-            return Err(TrialFault::StillBlank);
+        match advance_held(self.held, book, n) {
+            Ok(ran) => {
+                self.held = ran.held;
+                Ok((ran.made, ran.stop))
+            }
+            Err(refused) => Err(refused),
         }
-        if self.held.target.width != book.width() {
-            return Err(TrialFault::WidthsDiffer);
-        }
-        if self.held.clashed {
-            return Ok((0, Stop::Clash));
-        }
-        let ran = run(self.held, book, n);
-        self.held = ran.held;
-        Ok((ran.made, ran.stop))
     }
 
     // Takes the trial away, brings its merging to its end, and gives the verdict.
@@ -79,30 +66,10 @@ impl Trial {
         ensures promised { λ r. ⌜ Finish-promised (meaning (now (book .entry))) (seen self) (told r) ⌝ }
     {
         let Trial { held } = self;
-        if !held.begun {
-            return Finished {
-                held,
-                verdict: Verdict::Void,
-            };
-        }
-        if held.target.width != book.width() {
-            return Finished {
-                held,
-                verdict: Verdict::Void,
-            };
-        }
-        if held.clashed {
-            return Finished {
-                held,
-                verdict: Verdict::Follows,
-            };
-        }
-        // Among 64 symbols there are fewer merges than that, so it comes to rest or to a clash.
-        let ran = run(held, book, 65);
-        let verdict = judge(&ran.held);
+        let ended = finish_held(held, book);
         Finished {
-            held: ran.held,
-            verdict,
+            held: ended.held,
+            verdict: ended.verdict,
         }
     }
 }
