@@ -6,3 +6,4 @@ pub mod Complete
 pub mod Refusals
 pub mod Theorems
 pub mod Telling
+pub mod Laid

@@ -1,7 +1,7 @@
 -- What reading tells of the text.
 use mathlib.Core.Path.{_≡_, refl, sym, ap, subst, _∙_}
 use mathlib.Core.Bool.{true, false, cond}
-use mathlib.Core.List.{List}
+use mathlib.Core.List.{List, map}
 use mathlib.Core.Logic.{_⊎_, inl, inr, ⊎-elim}
 use Prim.Native.Nat.{ℕ, _≤_}
 use native.Mathlib.Omega.{arith}
@@ -17,11 +17,14 @@ use Rattle.reader.specs.declared.fault.Cause.the-variants.{Byte, Form, Count, U
 use Rattle.reader.specs.declared.fault.ReadFault.{ReadFault}
 use Rattle.reader.specs.declared.desk.Sizes.{Sizes}
 use Rattle.reader.specs.Format.{Rooms, Memo, readLines, wholeText, nothing, readText}
-use Rattle.reader.specs.Reads.{Lent, Holds, Reads}
+use Rattle.reader.specs.Held.{wordsIn}
+use Rattle.reader.specs.Reads.{Lent, Holds, Reads, padded, nameOf, noName}
+use Rattle.sheets.specs.Layout.{layout}
 use Rattle.spelling.specs.Draft.{Draft, Spells, putDown}
 use Rattle.spelling.specs.Laws.{Why, Tells}
 use Rattle.spelling.proofs.Lexical.{no-ok, cond-ok}
 use Rattle.spelling.proofs.Refusals.{Refused, same-cause}
+use Rattle.spelling.proofs.Laid.{laid}
 use Rattle.spelling.proofs.Theorems.{read-spells, spelled-reads, refused-spells-nothing, refused-lines}
 
 module _ (rooms : Rooms) (text : List ℕ) where
@@ -49,5 +52,21 @@ module _ (rooms : Rooms) (text : List ℕ) where
   pub telling : (n : Lent) (r : Result Sizes ReadFault) (rs ts : List ℕ) (ns : List Name) → Reads text n (readText rooms text) r rs ts ns → Tells text n r rs ts ns
   telling n (Ok s) rs ts ns (m, q, h) =
       let d = read-spells rooms text m q in
-      record { draft = d .0; spells = d .1; holds = λ e sp. subst (λ z. Holds text n z s rs ts ns) (same-memo m q e sp) h }
+      let holds : (e : Draft) → Spells text e → Holds text n (putDown e) s rs ts ns = λ e sp. subst (λ z. Holds text n z s rs ts ns) (same-memo m q e sp) h in
+      record {
+        draft = d .0;
+        spells = d .1;
+        holds = holds;
+        spelled = record { draft = d .0; spells = d .1; book-is = refl; targets-is = refl; names-are = refl };
+        laid-out = λ book targets names sp.
+            let e = sp .draft in
+            let hold = holds e (sp .spells) in
+            let sheets = laid e (sp .spells .spelled .ok) in
+            record {
+              rules = hold .rules ∙ ap (padded (n .rules) 0) (sheets .0 ∙ ap layout (sym (sp .book-is)));
+              targets = hold .targets ∙ ap (padded (n .targets) 0) (sheets .1 ∙ ap layout (sym (sp .targets-is)));
+              names = hold .names ∙ ap (λ z. padded (n .names) noName (map nameOf z)) (sym (sp .names-are));
+              parts = subst (λ z. wordsIn text (map nameOf z) ≡ z) (sym (sp .names-are)) (hold .parts);
+            };
+      }
   telling n (Err e) rs ts ns (q, b) = record { blank = b; why = why (e .cause) (e .line) q; only-room = only-room e q }
