@@ -87,7 +87,7 @@ module _ (p : Part) where
   all-grown m [] e = same m e
   all-grown m (ws ∷ xs) e = let a = puts-grown m ws e in then a (all-grown (puts m ws) xs (a .stays))
 
-many-rows : (m : Memo) (xs : List (List Word)) → length (patternOf m xs) ≡ length xs
+pub many-rows : (m : Memo) (xs : List (List Word)) → length (patternOf m xs) ≡ length xs
 many-rows m [] = refl
 many-rows m (ws ∷ xs) = ap suc (many-rows (puts m ws) xs)
 
@@ -101,7 +101,7 @@ one-variable m W (w ∷ []) h =
     let var = and-parts (isVariable (w .bytes)) true (and-parts (fits 1 (w ∷ [])) (allVariables (w ∷ [])) h .1) .0 in
     (ap (λ t. wordOf (cond t (Variable (numberOf (m .vars) w)) (Constant (numberOf (m .names) w))) ∷ []) var, refl)
 
-variables-laid : (m : Memo) (xs : List (List Word)) → LinesOk entries.Variable m xs → (joined (map wordOf) (patternOf m xs) ≡ joined leftWords (numbersOf m xs)) × (length (numbersOf m xs) ≡ length xs)
+pub variables-laid : (m : Memo) (xs : List (List Word)) → LinesOk entries.Variable m xs → (joined (map wordOf) (patternOf m xs) ≡ joined leftWords (numbersOf m xs)) × (length (numbersOf m xs) ≡ length xs)
 variables-laid m [] h = (refl, refl)
 variables-laid m (ws ∷ xs) h =
     let a = one-variable m (m .width) ws (h .0) in
@@ -129,7 +129,7 @@ two-terms m W (w ∷ v ∷ u ∷ ws) h =
     let z = eqb-true (length (w ∷ v ∷ u ∷ ws)) 2 (and-parts (eqb (length (w ∷ v ∷ u ∷ ws)) 2) (allTerms (w ∷ v ∷ u ∷ ws)) h .0) in
     absurd (omega arith)
 
-pairs-laid : (m : Memo) (xs : List (List Word)) → LinesOk entries.Pair m xs → (joined (map wordOf) (patternOf m xs) ≡ joined (pairWords Equality) (pairsIn m xs)) × (length (pairsIn m xs) ≡ length xs)
+pub pairs-laid : (m : Memo) (xs : List (List Word)) → LinesOk entries.Pair m xs → (joined (map wordOf) (patternOf m xs) ≡ joined (pairWords Equality) (pairsIn m xs)) × (length (pairsIn m xs) ≡ length xs)
 pairs-laid m [] h = (refl, refl)
 pairs-laid m (ws ∷ xs) h =
     let a = two-terms m (m .width) ws (h .0) in
@@ -191,7 +191,7 @@ module _ (p : Part) where
   rules-grown m [] e ok = same p m e
   rules-grown m (r ∷ rs) e (ok, oks) = let a = rule-grown m r e ok in then a (rules-grown (putRule m r) rs (a .stays) oks)
 
-many-rules : (m : Memo) (rs : List RuleDraft) → length (rulesOf m rs) ≡ length rs
+pub many-rules : (m : Memo) (rs : List RuleDraft) → length (rulesOf m rs) ≡ length rs
 many-rules m [] = refl
 many-rules m (r ∷ rs) = ap suc (many-rules (putRule m r) rs)
 

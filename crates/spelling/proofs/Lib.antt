@@ -7,3 +7,5 @@ pub mod Refusals
 pub mod Theorems
 pub mod Telling
 pub mod Laid
+pub mod Facts
+pub mod Fits
