@@ -9,3 +9,4 @@ pub mod Telling
 pub mod Laid
 pub mod Facts
 pub mod Fits
+pub mod Within

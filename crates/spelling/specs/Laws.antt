@@ -15,6 +15,9 @@ use Rattle.reader.specs.Held.{wordsIn}
 use Rattle.reader.specs.Reads.{Lent, Holds, Blank, padded, nameOf, noName}
 use Rattle.rules.specs.Books.{BookMeaning}
 use Rattle.sheets.specs.Layout.{layout}
+use Rattle.sheets.specs.Laws.{Fitting}
+use Rattle.sheets.specs.Reads.{sheetMeaning}
+use Rattle.sheets.specs.Walk.{sheetEnd}
 use Rattle.text.specs.Words.{Word}
 use Rattle.text.specs.declared.words.Name.{Name}
 use Rattle.reader.specs.Format.{Rooms, Memo, readText}
@@ -61,12 +64,20 @@ pub record Laid-out (text : List ℕ) (n : Lent) (book aims : BookMeaning) (know
   pub names : ns ≡ padded (n .names) noName (map nameOf known)
   pub parts : wordsIn text (map nameOf known) ≡ known
 
--- the text spells a book and targets, and the places hold whatever it spells
+-- these words pass the sheet's check and open as this book
+pub record Opens-as (words : List ℕ) (book : BookMeaning) : Type 0 where
+  pub fitting : Fitting book
+  pub passes : sheetEnd words ≡ Ok (length (layout book))
+  pub means : sheetMeaning words ≡ book
+
+-- the text spells a book and targets, one only, and the places hold what it spells, in sheets that open as that
 pub record Told (text : List ℕ) (n : Lent) (s : Sizes) (rs ts : List ℕ) (ns : List Name) : Type 0 where
   pub draft : Draft
   pub spells : Spells text draft
   pub holds : (d : Draft) → Spells text d → Holds text n (putDown d) s rs ts ns
   pub spelled : Spells-book text (bookOf draft) (targetsOf draft) (putDown draft .names)
+  pub alone : (b t : BookMeaning) (ns : List Word) (c u : BookMeaning) (ms : List Word) → Spells-book text b t ns → Spells-book text c u ms → (b ≡ c) × (t ≡ u) × (ns ≡ ms)
+  pub opens : (book targets : BookMeaning) (names : List Word) → Spells-book text book targets names → Opens-as rs book × Opens-as ts targets
   pub laid-out : (book targets : BookMeaning) (names : List Word) → Spells-book text book targets names → Laid-out text n book targets names rs ts ns
 
 -- all places are zero, and the refusal says why; a text that spells something is refused only for want of room
