@@ -6,3 +6,7 @@ pub mod Complete
 pub mod Refusals
 pub mod Theorems
 pub mod Telling
+pub mod Laid
+pub mod Facts
+pub mod Fits
+pub mod Within

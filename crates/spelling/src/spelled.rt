@@ -5,6 +5,7 @@ ghost use Rattle.reader.specs.Reads.{lent, roomsIn, Reads};
 ghost use Rattle.spelling.specs.Laws.{Tells};
 use reader::desk::Sizes;
 use reader::fault::ReadFault;
+use sheets::laws::layout_stands;
 use text::words::Name;
 
 // Reads a text as what it spells, into the lent places.
@@ -20,5 +21,7 @@ pub fn read(
     ensures tells { λ r. ⌜ Tells (now (text .entry)) (lent (now (rules .entry)) (now (targets .entry)) (now (names .entry)))
         r (now (rules .exit)) (now (targets .exit)) (now (names .exit)) ⌝ }
 {
+    // what is laid out passes the sheet's check and reads back
+    layout_stands();
     reader::reader::read(text, rules, targets, names)
 }
