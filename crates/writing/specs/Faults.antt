@@ -1,0 +1,7 @@
+-- The refusal that the fault of a report is.
+use Rattle.rules.specs.declared.refusal.Refusal.{Refusal}
+use Rattle.rules.specs.declared.refusal.Layer.the-variants.{Report}
+use Rattle.writing.specs.declared.room.TooShort.{TooShort}
+
+abbrev pub shortRefusal : TooShort → Refusal
+shortRefusal f = record { number = 13; layer = Report; place = f .place }
