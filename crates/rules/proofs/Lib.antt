@@ -1,3 +1,3 @@
-mod Members
-mod Doubles
+pub mod Members
+pub mod Doubles
 mod Reading

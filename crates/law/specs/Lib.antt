@@ -1,0 +1,9 @@
+pub mod Implied
+pub mod Groups
+pub mod Runs
+pub mod Calls
+pub mod Promise
+pub mod Stored
+pub mod Standing
+pub mod Renaming
+pub mod Laws

@@ -1,0 +1,4 @@
+mod Fits
+mod Settled
+mod Answering
+mod Worked
