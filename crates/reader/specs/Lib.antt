@@ -1,0 +1,4 @@
+pub mod Format
+pub mod Held
+pub mod Goes
+pub mod Reads
