@@ -12,6 +12,7 @@ use Rattle.std.specs.Results.{Cases, isOk}
 use Rattle.std.specs.declared.result.Result.{Result}
 use Rattle.std.specs.declared.result.Result.the-variants.{Ok, Err}
 use Rattle.writing.specs.declared.room.TooShort.{TooShort}
+use Rattle.writing.specs.Faults.{shortAt}
 use Rattle.writing.specs.Fitting.{whole, Fits, Short-at, Writes, Fitting}
 
 -- more parts are not shorter
@@ -45,37 +46,39 @@ first size (p ∷ ps) h =
     (suc k, (omega (arith, f .0), omega (arith, f .1, length-append p (whole (take k ps))), omega (arith, f .2))))
     (cases-lt size (length p))
 
-some : (size : ℕ) (ps : List (List ℕ)) → (r : Result ℕ TooShort) × (out : List ℕ) × Writes size ps r out
-some size ps =
-    ⊎-elim
-    (λ short.
-    let f = first size ps short in
-    (Err (record { place = f .0 }), replicate size 0, record { listed = f .1 .0; before = f .1 .1; past = f .1 .2; blank = refl }))
-    (λ fits. (Ok (length (whole ps)), whole ps ++ replicate (size - length (whole ps)) 0, record { long = refl; room = fits; holds = refl }))
-    (cases-lt size (length (whole ps)))
-
 never-both : (size : ℕ) (ps : List (List ℕ)) (n k : ℕ) (out out′ : List ℕ) → Fits size ps n out → Short-at size ps k out′ → ⊥
 never-both size ps n k out out′ f s = omega (arith, f .long, f .room, s .past, at-most (k + 1) ps)
 
 not-before : (size : ℕ) (ps : List (List ℕ)) (k j : ℕ) (out out′ : List ℕ) → Short-at size ps k out → Short-at size ps j out′ → k < j → ⊥
 not-before size ps k j out out′ f s h = omega (arith, f .past, s .before, grows (k + 1) j ps (omega arith))
 
-one : (size : ℕ) (ps : List (List ℕ)) (r r′ : Result ℕ TooShort) (out out′ : List ℕ) → Writes size ps r out → Writes size ps r′ out′ → (r ≡ r′) × (out ≡ out′)
-one size ps (Ok n) (Ok m) out out′ f s =
-    let same : n ≡ m = f .long ∙ sym (s .long) in
-    (ap Ok same, f .holds ∙ ap (λ k. whole ps ++ replicate (size - k) 0) same ∙ sym (s .holds))
-one size ps (Ok n) (Err e) out out′ f s = absurd (never-both size ps n (e .place) out out′ f s)
-one size ps (Err e) (Ok n) out out′ s f = absurd (never-both size ps n (e .place) out′ out f s)
-one size ps (Err e) (Err d) out out′ f s =
-    let same : e .place ≡ d .place =
-    ⊎-elim (λ h. absurd (not-before size ps (e .place) (d .place) out out′ f s h))
-    (λ h. ⊎-elim (λ g. absurd (not-before size ps (d .place) (e .place) out′ out s f g)) (λ g. omega arith) (cases-lt (d .place) (e .place)))
-    (cases-lt (e .place) (d .place)) in
-    (ap (λ k. Err (record { place = k })) same, f .blank ∙ sym (s .blank))
+module _ (E : Type 0) (short : ℕ → E) where
+  pub some : (size : ℕ) (ps : List (List ℕ)) → (r : Result ℕ E) × (out : List ℕ) × Writes short size ps r out
+  some size ps =
+      ⊎-elim
+      (λ less.
+      let f = first size ps less in
+      (Err (short (f .0)), replicate size 0, (f .0, refl, record { listed = f .1 .0; before = f .1 .1; past = f .1 .2; blank = refl })))
+      (λ fits. (Ok (length (whole ps)), whole ps ++ replicate (size - length (whole ps)) 0, record { long = refl; room = fits; holds = refl }))
+      (cases-lt size (length (whole ps)))
 
-written : (size : ℕ) (ps : List (List ℕ)) (r : Result ℕ TooShort) (out : List ℕ) → Writes size ps r out → (isOk r ≡ true) ↔ (length (whole ps) ≤ size)
-written size ps (Ok n) out f = (λ e. omega (arith, f .long, f .room), λ h. refl)
-written size ps (Err e) out s = (λ t. let z : _≡_ {A = Bool} false true = t in let y : _≡_ {A = ℕ} 0 1 = cc in absurd (omega arith), λ h. absurd (omega (arith, s .past, at-most (e .place + 1) ps)))
+  pub one : (size : ℕ) (ps : List (List ℕ)) (r r′ : Result ℕ E) (out out′ : List ℕ) → Writes short size ps r out → Writes short size ps r′ out′ → (r ≡ r′) × (out ≡ out′)
+  one size ps (Ok n) (Ok m) out out′ f s =
+      let same : n ≡ m = f .long ∙ sym (s .long) in
+      (ap Ok same, f .holds ∙ ap (λ k. whole ps ++ replicate (size - k) 0) same ∙ sym (s .holds))
+  one size ps (Ok n) (Err e) out out′ f s = absurd (never-both size ps n (s .0) out out′ f (s .2))
+  one size ps (Err e) (Ok n) out out′ s f = absurd (never-both size ps n (s .0) out′ out f (s .2))
+  one size ps (Err e) (Err d) out out′ f s =
+      let same : f .0 ≡ s .0 =
+      ⊎-elim (λ h. absurd (not-before size ps (f .0) (s .0) out out′ (f .2) (s .2) h))
+      (λ h. ⊎-elim (λ g. absurd (not-before size ps (s .0) (f .0) out′ out (s .2) (f .2) g)) (λ g. omega arith) (cases-lt (s .0) (f .0)))
+      (cases-lt (f .0) (s .0)) in
+      (ap Err (f .1 ∙ ap short same ∙ sym (s .1)), f .2 .blank ∙ sym (s .2 .blank))
+
+  pub written : (size : ℕ) (ps : List (List ℕ)) (r : Result ℕ E) (out : List ℕ) → Writes short size ps r out → (isOk r ≡ true) ↔ (length (whole ps) ≤ size)
+  written size ps (Ok n) out f = (λ e. omega (arith, f .long, f .room), λ h. refl)
+  written size ps (Err e) out s =
+      (λ t. let z : _≡_ {A = Bool} false true = t in let y : _≡_ {A = ℕ} 0 1 = cc in absurd (omega arith), λ h. absurd (omega (arith, s .2 .past, at-most (s .0 + 1) ps)))
 
 pub fitting : Fitting
-fitting = record { some = some; one = one; written = written }
+fitting = record { some = some TooShort shortAt; one = one TooShort shortAt; written = written TooShort shortAt }

@@ -5,18 +5,16 @@ use mathlib.Core.Logic.{_⊎_, ⊎-elim}
 use Prim.Native.Nat.{ℕ, _+_, _≤_, _<_}
 use native.Mathlib.Omega.{arith}
 use lib.ListN.{length, getD, take, drop, set}
-use Rattle.std.specs.shelf.Lists.{All}
 use Rattle.std.specs.shelf.Maps.{nth}
 use Rattle.std.proofs.shelf.Lists.{drop-more, drop-all, take-all, take-more-set, map-more, getD-past}
 use Rattle.std.proofs.shelf.Maps.{nth-getD, nth-past}
 use Rattle.std.proofs.shelf.Tests.{cases-lt}
-use Rattle.std.proofs.shelf.Elements.{all-getD}
 use Rattle.std.specs.declared.option.Option.{Option}
 use Rattle.std.specs.declared.option.Option.the-variants.{Some, None}
 use Rattle.rules.specs.Books.{within}
 use Rattle.text.specs.declared.words.Name.{Name}
 use Rattle.pieces.specs.declared.piece.Piece.{Piece}
-use Rattle.writing.specs.Outcomes.{Outcome, Narrow, rowsOf, entryAt}
+use Rattle.writing.specs.Outcomes.{Outcome, rowsOf, entryAt}
 use Rattle.writing.specs.Reports.{entryPiece, rowLine}
 
 pub in-row : (o : Outcome) (row column : ℕ) → entryAt o row column ≡ nth (getD (rowsOf o) row []) column
@@ -24,13 +22,6 @@ in-row o row column =
     ⊎-elim
     (λ h. ap (λ r. within r (λ t. nth t column)) (nth-getD (rowsOf o) row [] h))
     (λ h. ap (λ r. within r (λ t. nth t column)) (nth-past (rowsOf o) row h) ∙ sym (ap (λ r. nth r column) (getD-past (rowsOf o) row [] h) ∙ nth-past [] column (omega arith)))
-    (cases-lt row (length (rowsOf o)))
-
-pub row-narrow : (o : Outcome) (row : ℕ) → Narrow o → length (getD (rowsOf o) row []) ≤ 8
-row-narrow o row all =
-    ⊎-elim
-    (λ h. all-getD (λ r. length r ≤ 8) (rowsOf o) row [] h all)
-    (λ h. subst (λ r. length r ≤ 8) (sym (getD-past (rowsOf o) row [] h)) (omega arith))
     (cases-lt row (length (rowsOf o)))
 
 pub nth-some : {X : Type 0} (xs : List X) (i : ℕ) (x : X) → nth xs i ≡ Some x → (i < length xs) × (getD xs i x ≡ x)

@@ -1,7 +1,6 @@
 pub mod Entries
 pub mod Telling
 pub mod Parted
-pub mod Closing
-pub mod Pushed
+pub mod Closed
 pub mod Alike
 pub mod Lengths

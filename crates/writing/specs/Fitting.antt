@@ -9,6 +9,7 @@ use Rattle.std.specs.Joined.{joined}
 use Rattle.std.specs.Results.{Cases, isOk}
 use Rattle.std.specs.declared.result.Result.{Result}
 use Rattle.writing.specs.declared.room.TooShort.{TooShort}
+use Rattle.writing.specs.Faults.{shortAt}
 
 abbrev pub whole : List (List ℕ) → List ℕ
 whole ps = joined (λ p. p) ps
@@ -27,13 +28,16 @@ pub record Short-at (size : ℕ) (ps : List (List ℕ)) (k : ℕ) (out : List �
   pub past : size < length (whole (take (k + 1) ps))
   pub blank : out ≡ replicate size 0
 
--- what a call answers that writes these parts into so many places, and what the places then hold
-abbrev pub Writes : ℕ → List (List ℕ) → Result ℕ TooShort → List ℕ → Type 0
-Writes size ps r out = Cases r (λ n. Fits size ps n out) (λ e. Short-at size ps (e .place) out)
+-- What a call answers that writes these parts into so many places, and what the places then hold. `short k` is the fault
+-- that says that part k is the first that does not fit.
+abbrev pub Writes : {E : Type 0} → (ℕ → E) → ℕ → List (List ℕ) → Result ℕ E → List ℕ → Type 0
+Writes short size ps r out = Cases r (λ n. Fits size ps n out) (λ e. (k : ℕ) × (e ≡ short k) × Short-at size ps k out)
 
 pub record Fitting : Type 0 where
   -- there is exactly one answer, with what the places hold
-  pub some : (size : ℕ) (ps : List (List ℕ)) → (r : Result ℕ TooShort) × (out : List ℕ) × Writes size ps r out
-  pub one : (size : ℕ) (ps : List (List ℕ)) (r r′ : Result ℕ TooShort) (out out′ : List ℕ) → Writes size ps r out → Writes size ps r′ out′ → (r ≡ r′) × (out ≡ out′)
+  pub some : (size : ℕ) (ps : List (List ℕ)) → (r : Result ℕ TooShort) × (out : List ℕ) × Writes shortAt size ps r out
+  pub one : (size : ℕ) (ps : List (List ℕ)) (r r′ : Result ℕ TooShort) (out out′ : List ℕ) →
+      Writes shortAt size ps r out → Writes shortAt size ps r′ out′ → (r ≡ r′) × (out ≡ out′)
   -- it is no refusal exactly if the parts together are not longer than the places
-  pub written : (size : ℕ) (ps : List (List ℕ)) (r : Result ℕ TooShort) (out : List ℕ) → Writes size ps r out → (isOk r ≡ true) ↔ (length (whole ps) ≤ size)
+  pub written : (size : ℕ) (ps : List (List ℕ)) (r : Result ℕ TooShort) (out : List ℕ) →
+      Writes shortAt size ps r out → (isOk r ≡ true) ↔ (length (whole ps) ≤ size)

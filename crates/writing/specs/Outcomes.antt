@@ -1,8 +1,7 @@
 -- What came of a target.
 use mathlib.Core.List.{List, []}
 use Prim.Native.Nat.{ℕ, _≤_}
-use lib.ListN.{length}
-use Rattle.std.specs.shelf.Lists.{All}
+use lib.ListN.{length, getD}
 use Rattle.std.specs.shelf.Maps.{nth}
 use Rattle.std.specs.declared.option.Option.{Option}
 use Rattle.std.specs.declared.option.Option.the-variants.{Some, None}
@@ -27,4 +26,4 @@ entryAt o row column = within (nth (rowsOf o) row) (λ r. nth r column)
 
 -- each row has at most 8 entries
 abbrev pub Narrow : Outcome → Type 0
-Narrow o = All (λ row. length row ≤ 8) (rowsOf o)
+Narrow o = (i : ℕ) → length (getD (rowsOf o) i []) ≤ 8

@@ -1,9 +1,8 @@
-// What came of targets, written as a report, and a refusal, written as a line.
+// What came of targets, and a refusal, written as lines.
+pub mod closing;
 pub mod laws;
 pub mod refused;
 mod refusing;
 pub mod room;
-pub mod runs;
 pub mod target;
 pub mod told;
-pub mod whole;

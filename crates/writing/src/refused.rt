@@ -5,10 +5,10 @@ ghost use Prim.Native.Nat.{ℕ, _+_, _-_, _≤_, _<_};
 ghost use lib.ListN.{length};
 ghost use Rattle.pieces.specs.Put.{Puts, size, Same};
 ghost use Rattle.writing.specs.Reports.{refusalText};
+ghost use Rattle.writing.specs.Faults.{shortAt};
 ghost use Rattle.writing.specs.Fitting.{Writes};
-ghost use Rattle.writing.specs.Filling.{Fills};
+use crate::closing::close;
 use crate::room::TooShort;
-use crate::whole::close;
 use pieces::line::put_line;
 use pieces::output::Output;
 use pieces::output::Short;
@@ -34,7 +34,7 @@ fn put_refusal(out: &mut Output, refusal: Refusal) -> Result<(), Short>
 fn refusal_into(out: &mut Output, refusal: Refusal) -> Result<usize, TooShort>
     requires { ⌜ now out .used ≡ 0 ⌝ }
     ensures same { λ _. ⌜ Same (now (out .entry)) (now (out .exit)) ⌝ }
-    ensures writes { λ r. ⌜ Writes (size (now (out .entry))) (refusalText refusal ∷ []) r (now (now (out .exit) .places)) ⌝ }
+    ensures writes { λ r. ⌜ Writes shortAt (size (now (out .entry))) (refusalText refusal ∷ []) r (now (now (out .exit) .places)) ⌝ }
 {
     let put = match put_refusal(out, refusal) {
         Ok(()) => Ok(()),
@@ -45,7 +45,7 @@ fn refusal_into(out: &mut Output, refusal: Refusal) -> Result<usize, TooShort>
 
 // Writes a refusal; it answers the number of bytes.
 pub fn write_refusal(refusal: Refusal, output: &mut [u8]) -> Result<usize, TooShort>
-    ensures { λ r. ⌜ Writes (length (now (output .entry))) (refusalText refusal ∷ []) r (now (output .exit)) ⌝ }
+    ensures { λ r. ⌜ Writes shortAt (length (now (output .entry))) (refusalText refusal ∷ []) r (now (output .exit)) ⌝ }
 {
     let mut out = Output {
         places: output,
