@@ -21,10 +21,10 @@ at-same f g h (Constant c) = refl
 at-same f g h (Variable v) = h v
 
 -- the second placing that a valuation of the doubled rows gives
-abbrev after : List ℕ → Valuation → Valuation
+abbrev pub after : List ℕ → Valuation → Valuation
 after left h v = h (cond (holds left v) v (32 + v))
 
-at-copied : (left : List ℕ) (h : Valuation) (t : Term) → at h (copied left t) ≡ at (after left h) t
+pub at-copied : (left : List ℕ) (h : Valuation) (t : Term) → at h (copied left t) ≡ at (after left h) t
 at-copied left h (Constant c) = refl
 at-copied left h (Variable v) = refl
 

@@ -3,3 +3,4 @@ pub mod Books
 pub mod Laws
 pub mod Doubled
 pub mod Faults
+pub mod Loaded

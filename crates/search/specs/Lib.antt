@@ -1,0 +1,4 @@
+pub mod Relations
+pub mod Spots
+pub mod Placings
+pub mod Seens
