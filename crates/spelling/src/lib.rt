@@ -1,0 +1,2 @@
+// What the texts that are read spell.
+pub mod laws;
