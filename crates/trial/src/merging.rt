@@ -30,11 +30,9 @@ fn merge(held: Held, spot: &Spot) -> Held
     requires { ⌜ held .merges < 64 ⌝ }
     ensures { λ r. ⌜ r ≡ after held (replaced (max (now (spot .entry) .one) (now (spot .entry) .other)) (min (now (spot .entry) .one) (now (spot .entry) .other)) (held .shown)) 1 (held .clashed) (now (spot .entry) .rule) ⌝ }
 {
-    let shown = replace(
-        held.shown,
-        spot.one.max(spot.other),
-        spot.one.min(spot.other),
-    );
+    let greater = spot.one.max(spot.other);
+    let lesser = spot.one.min(spot.other);
+    let shown = replace(held.shown, greater, lesser);
     Held {
         begun: held.begun,
         target: held.target,

@@ -2,6 +2,7 @@
 use rules::book::Book;
 
 // To start on a rule of a lent book of targets, by its number, or to advance by so many merges.
+#[derive(Drop)]
 pub enum Request<'a, T: Book> {
     Start(&'a T, usize),
     Advance(usize),
