@@ -15,10 +15,7 @@ pub fn print_refusal(rt: &LibcRuntime, refusal: Refusal) -> Result<(), AnyError>
         Layer::Book => "book",
         Layer::Join => "join",
         Layer::Trial => "trial",
-<<<<<<< HEAD
         Layer::Report => "report",
-=======
->>>>>>> trial
     };
     println!(rt, "refused {number} {layer} {place}")?;
     Ok(())

@@ -12,10 +12,7 @@ pub fn print_refusal(rt: &LibcRuntime, case: &str, refusal: Refusal) -> io::Resu
         Layer::Book => "book",
         Layer::Join => "join",
         Layer::Trial => "trial",
-<<<<<<< HEAD
         Layer::Report => "report",
-=======
->>>>>>> trial
     };
     println!(rt, "{case}: refused {number} {layer} {place}")
 }
