@@ -82,9 +82,11 @@ fn print_refusal(rt: &LibcRuntime, refusal: Refusal) -> Result<(), AnyError> {
     let number = refusal.number;
     let place = refusal.place;
     let layer = match refusal.layer {
+        Layer::Reader => "reader",
         Layer::Book => "book",
         Layer::Join => "join",
         Layer::Trial => "trial",
+        Layer::Report => "report",
     };
     println!(rt, "refused {number} {layer} {place}")?;
     Ok(())

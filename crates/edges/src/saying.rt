@@ -8,9 +8,11 @@ pub fn print_refusal(rt: &LibcRuntime, case: &str, refusal: Refusal) -> io::Resu
     let number = refusal.number;
     let place = refusal.place;
     let layer = match refusal.layer {
+        Layer::Reader => "reader",
         Layer::Book => "book",
         Layer::Join => "join",
         Layer::Trial => "trial",
+        Layer::Report => "report",
     };
     println!(rt, "{case}: refused {number} {layer} {place}")
 }

@@ -6,3 +6,4 @@ pub mod fault;
 mod put;
 mod read;
 pub mod reader;
+mod refusing;

@@ -3,9 +3,11 @@
 // The layer that refused.
 #[derive(Clone, Copy, PartialEq, Eq, Debug)]
 pub enum Layer {
+    Reader,
     Book,
     Join,
     Trial,
+    Report,
 }
 
 // Its number in the table of refusals, who refused, and where: a place, or 0 where there is none to tell.

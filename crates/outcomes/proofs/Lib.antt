@@ -1,0 +1,4 @@
+pub mod Shown
+pub mod Unique
+pub mod Naming
+pub mod All

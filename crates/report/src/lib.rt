@@ -1,0 +1,6 @@
+// The report: a text in, verdicts and counter rows out.
+pub mod fault;
+pub mod faults;
+mod judged;
+pub mod report;
+mod targets;
