@@ -82,10 +82,6 @@ module _ (rel : List (List ℕ)) (rule : LoadedRule) (plan : Plan) where
 abbrev pub At : List (List ℕ) → LoadedRule → Split → Type 0
 At rel rule s = Split-at rel rule (s .places .rows) (s .difference .pair) (s .difference .one) (s .difference .other)
 
-pub join-start : (rel : List (List ℕ)) (rule : LoadedRule) (o : Option Split) (p : List ℕ) → BySome o (From rel rule 0 p (Joins rule)) (At rel rule) → BySome o (All-join rel rule) (At rel rule)
-join-start rel rule None p joins = λ f placed. joins f (λ i h. absurd (omega arith)) (λ i _ h. placed i h)
-join-start rel rule (Some s) p splits = splits
-
 -- the first row at its place
 pub first-placed : (rel : List (List ℕ)) (rule : LoadedRule) (plan : Plan) → Origins rule plan → (k m : ℕ) → k ≡ m → 0 < rule .«row_count» → (o : Option Split) → BySome o (From rel rule 1 (set (replicate 8 0) 0 k) (Joins rule)) (At rel rule) → BySome o (With rel rule 0 (replicate 8 0) m (Joins rule)) (At rel rule)
 first-placed rel rule plan origins k m is some None joins = subst (λ x. With rel rule 0 (replicate 8 0) x (Joins rule)) is (tried-next rel rule plan origins 0 k (replicate 8 0) (omega arith) some (Joins rule) joins)

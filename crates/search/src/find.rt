@@ -1,24 +1,16 @@
 // Where the rows of a relation break a rule of a book.
 ghost use mathlib.Core.Path.{_≡_};
-ghost use Prim.Native.Nat.{_<_, _≤_};
-ghost use lib.ListN.{length};
 ghost use Rattle.std.specs.Options.{Cases as BySome};
-ghost use Rattle.rules.specs.declared.term.Kind.the-variants.{Equality};
-ghost use Rattle.rules.specs.Loaded.{meant};
-ghost use Rattle.search.specs.Placings.{Picks, Sound};
-ghost use Rattle.search.specs.Spots.{Found, Looked, Looked-at, Quiet};
-use crate::choices::Choices;
+ghost use Rattle.search.specs.Spots.{Found, Looked-at, Quiet};
 use crate::choices::choices_of;
 use crate::look::begin;
+use crate::look::begin_doubled;
+use crate::look::from_place;
 use crate::look::look_from;
 use crate::relation::Relation;
 use crate::seen::Seen;
 use crate::spot::Spot;
-use crate::spots::spot_of;
-use crate::walk::find_split;
 use rules::book::Book;
-use rules::doubling::load_doubled;
-use rules::loaded::LoadedRule;
 
 // What a search works in. Nothing is asked of what it holds before, so one serves for any number of searches.
 #[derive(Clone, Copy)]
@@ -43,42 +35,6 @@ impl Scratch {
     }
 }
 
-// One placing at a time.
-fn look_equal<R: Relation>(
-    relation: &R,
-    rule: &LoadedRule,
-    number: usize,
-    choices: &Choices,
-    tests: &mut u64,
-) -> Option<Spot>
-    requires sound { ⌜ Sound (now rule) ⌝ }
-    requires kind { ⌜ now rule .kind ≡ Equality ⌝ }
-    requires picks { ⌜ Picks (meaning (now relation) .rows) (now choices) (length (meaning (now relation) .rows)) ⌝ }
-    ensures { λ r. ⌜ Looked (meaning (now (relation .entry)) .rows) (meant (now (rule .entry))) number r ⌝ }
-{
-    match find_split(relation, rule, choices, tests) {
-        Some(split) => Some(spot_of(number, &split, rule.row_count)),
-        None => None,
-    }
-}
-
-// One placing of the doubled form at a time.
-fn look_doubled<R: Relation, B: Book>(
-    relation: &R,
-    book: &B,
-    number: usize,
-    choices: &Choices,
-    tests: &mut u64,
-) -> Option<Spot>
-    requires { ⌜ Picks (R·Relation .meaning (now relation) .rows) (now choices) (length (R·Relation .meaning (now relation) .rows)) ⌝ }
-    ensures { λ r. ⌜ Looked-at (R·Relation .meaning (now (relation .entry)) .rows) (B·Book .meaning (now (book .entry)) .rules) number r ⌝ }
-{
-    match load_doubled(book, number) {
-        Some(form) => look_equal(relation, &form, number, choices, tests),
-        None => None,
-    }
-}
-
 // A look at one rule that walks through the placings of its doubled form, one by one: slow, and a measure for others.
 pub fn look_plainly<R: Relation, B: Book>(
     relation: &R,
@@ -89,7 +45,14 @@ pub fn look_plainly<R: Relation, B: Book>(
     ensures { λ r. ⌜ Looked-at (R·Relation .meaning (now (relation .entry)) .rows) (B·Book .meaning (now (book .entry)) .rules) rule r ⌝ }
 {
     let choices = choices_of(relation);
-    look_doubled(relation, book, rule, &choices, &mut scratch.tests)
+    if let Some(look) = begin_doubled(relation, book, rule) {
+        for m in 0..choices.count {
+            if let Some(spot) = from_place(relation, &look, &choices, m, &mut scratch.tests) {
+                return Some(spot);
+            }
+        }
+    }
+    None
 }
 
 // Looks at `turns` rules, from rule `first` on and round past the last, for a break; none if the relation keeps them all.

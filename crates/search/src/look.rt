@@ -104,7 +104,12 @@ fn begin_walk<R: Relation>(relation: &R, form: &LoadedRule, number: usize) -> Op
     })
 }
 
-fn begin_doubled<R: Relation, B: Book>(relation: &R, book: &B, number: usize) -> Option<Look>
+// Makes a look at the doubled form ready.
+pub(crate) fn begin_doubled<R: Relation, B: Book>(
+    relation: &R,
+    book: &B,
+    number: usize,
+) -> Option<Look>
     ensures { λ r. ⌜ BySome r (Looked-at (R·Relation .meaning (now (relation .entry)) .rows) (B·Book .meaning (now (book .entry)) .rules) number None) (λ look. (look .number ≡ number) × Links (R·Relation .meaning (now (relation .entry)) .rows) (B·Book .meaning (now (book .entry)) .rules) (meant (look .own)) number × (look .grouped ≡ false) × Walk-ready (R·Relation .meaning (now (relation .entry)) .rows) look) ⌝ }
 {
     match load_doubled(book, number) {
@@ -172,7 +177,7 @@ fn from_group<R: Relation>(
     }
 }
 
-fn from_place<R: Relation>(
+pub(crate) fn from_place<R: Relation>(
     relation: &R,
     look: &Look,
     choices: &Choices,

@@ -5,12 +5,11 @@ ghost use mathlib.Core.List.{List};
 ghost use Prim.Native.Nat.{ℕ, _+_, _-_, _<_, _≤_};
 ghost use lib.ListN.{length, replicate};
 ghost use Rattle.std.specs.Options.{Cases as BySome};
-ghost use Rattle.search.specs.Placings.{value, filled, place, Sound, Rows-fit, Planned, Fitting, Picks, Lands, Landed, From, With, chosen, Joins, Splits, All-join, Split-at};
+ghost use Rattle.search.specs.Placings.{value, filled, place, Sound, Rows-fit, Planned, Fitting, Picks, Lands, Landed, From, With, chosen, Joins, Splits, Split-at};
 use crate::cell::cell;
 use crate::choices::Choices;
 use crate::choices::row_at;
 use crate::plan::Plan;
-use crate::plan::plan_of;
 use crate::relation::Relation;
 use rules::loaded::LoadedRule;
 
@@ -163,30 +162,4 @@ pub(crate) fn try_place<R: Relation>(
         return walk_from(relation, rule, plan, choices, 1, next, tests);
     }
     None
-}
-
-// A placing of the rule's pattern that splits one of its pairs, or none if each placing joins them all.
-pub(crate) fn find_split<R: Relation>(
-    relation: &R,
-    rule: &LoadedRule,
-    choices: &Choices,
-    tests: &mut u64,
-) -> Option<Split>
-    requires sound { ⌜ Sound (now rule) ⌝ }
-    requires picks { ⌜ Picks (meaning (now relation) .rows) (now choices) (length (meaning (now relation) .rows)) ⌝ }
-    ensures { λ r. ⌜ BySome r (All-join (meaning (now (relation .entry)) .rows) (now (rule .entry))) (λ s. Split-at (meaning (now (relation .entry)) .rows) (now (rule .entry)) (s .places .rows) (s .difference .pair) (s .difference .one) (s .difference .other)) ⌝ }
-{
-    if relation.width() != rule.width {
-        return None;
-    }
-    let plan = plan_of(rule);
-    walk_from(
-        relation,
-        rule,
-        &plan,
-        choices,
-        0,
-        Places { rows: [0; 8] },
-        tests,
-    )
 }
