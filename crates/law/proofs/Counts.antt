@@ -1,12 +1,12 @@
 -- Counting the different numbers of a list.
 use mathlib.Core.Path.{_≡_, refl, sym, ap, ap₂, _∙_}
 use mathlib.Core.Bool.{Bool, true, false, cond, _||_}
-use mathlib.Core.List.{List, [], _∷_, _++_, List·Memᴰ·head, List·Memᴰ·tail, List·Memᴰ·cases-cons, Memᴰ·append-left, Memᴰ·append-right}
+use mathlib.Core.List.{List, [], _∷_, _++_, map, Memᴰ·map, List·Memᴰ·head, List·Memᴰ·tail, List·Memᴰ·cases-cons, Memᴰ·append-left, Memᴰ·append-right}
 use mathlib.Core.Logic.{_≢_, _⊎_, inl, inr}
 use Prim.Native.Nat.{ℕ, zero, suc, _+_, _≤_, _<_, max}
 use native.Mathlib.Omega.{arith}
 use lib.Dec.{eqb}
-use Rattle.std.proofs.shelf.Tests.{cases-eq, cases-bool, eq-eqb, ne-eqb, eqb-true, or-left, or-cases, false≢true}
+use Rattle.std.proofs.shelf.Tests.{cases-eq, cases-bool, eq-eqb, ne-eqb, or-left, false≢true}
 use Rattle.rules.specs.Rules.{_∈_}
 use Rattle.rules.specs.Doubled.{holds}
 use Rattle.rules.proofs.Members.{holds-member, member-holds}
@@ -110,17 +110,41 @@ different-less xs ys m has lacks to from =
     gone : holds ys m ≡ false
     gone = elim (cases-bool (holds ys m)) [ inl e ↦ absurd (lacks (member-holds ys m e)) | inr e ↦ e ]
 
--- lists of the same numbers have equally many different ones
-pub different-same : (xs ys : List ℕ) → ((n : ℕ) → n ∈ xs → n ∈ ys) → ((n : ℕ) → n ∈ ys → n ∈ xs) → different xs ≡ different ys
-different-same xs ys to from =
-    let n = bound (xs ++ ys) in
-    different-tally xs n (λ x k. below-bound (xs ++ ys) x (Memᴰ·append-left ys k)) ∙
-    tally-same (λ v. holds xs v) (λ v. holds ys v) n (λ v l. holds-alike xs ys v (to v) (from v)) ∙
-    sym (different-tally ys n (λ x k. below-bound (xs ++ ys) x (Memᴰ·append-right xs k)))
-
 -- there are at most n different numbers below n
 pub different-most : (xs : List ℕ) (n : ℕ) → ((x : ℕ) → x ∈ xs → x < n) → different xs ≤ n
 different-most xs n low =
     let e = different-tally xs n low in
     let l = tally-most (λ v. holds xs v) n in
     omega arith
+
+tally-part : (p q : ℕ → Bool) (n : ℕ) → ((v : ℕ) → p v ≡ true → q v ≡ true) → tally p n ≤ tally q n
+unfolding tally
+tally-part p q zero h = omega arith
+tally-part p q (suc n) h = go (p n) (q n) (h n) (tally-part p q n h)
+  where
+    go : (x y : Bool) → (x ≡ true → y ≡ true) → tally p n ≤ tally q n → cond x 1 0 + tally p n ≤ cond y 1 0 + tally q n
+    go true true k l = omega arith
+    go true false k l = absurd (false≢true (k refl))
+    go false true k l = omega arith
+    go false false k l = omega arith
+
+-- a part of a list has no more different numbers
+pub different-part : (xs ys : List ℕ) → ((n : ℕ) → n ∈ xs → n ∈ ys) → different xs ≤ different ys
+different-part xs ys part =
+    let n = bound ys in
+    let e = different-tally xs n (λ x k. below-bound ys x (part x k)) in
+    let e′ = different-tally ys n (below-bound ys) in
+    let l = tally-part (λ v. holds xs v) (λ v. holds ys v) n (λ v k. holds-member ys v (part v (member-holds xs v k))) in
+    omega arith
+
+-- nor has what a function makes of a list
+pub different-image : (f : ℕ → ℕ) (xs : List ℕ) → different (map f xs) ≤ different xs
+different-image f [] = omega arith
+different-image f (x ∷ xs) = go (holds (map f xs) (f x)) (holds xs x) refl refl (different-image f xs)
+  where
+    go : (k k′ : Bool) → holds (map f xs) (f x) ≡ k → holds xs x ≡ k′ → different (map f xs) ≤ different xs →
+        cond k (different (map f xs)) (suc (different (map f xs))) ≤ cond k′ (different xs) (suc (different xs))
+    go true true e e′ l = l
+    go true false e e′ l = omega arith
+    go false false e e′ l = omega arith
+    go false true e e′ l = absurd (false≢true (sym e ∙ holds-member (map f xs) (f x) (Memᴰ·map f (member-holds xs x e′))))

@@ -1,14 +1,13 @@
 -- The answers of advances, where a run comes to rest.
-use mathlib.Core.Path.{_≡_, refl, sym, ap, ap₂, _∙_, subst}
-use mathlib.Core.Bool.{Bool, true, false, cond}
+use mathlib.Core.Path.{_≡_, refl, sym, ap, _∙_, subst}
+use mathlib.Core.Bool.{Bool, false}
 use mathlib.Core.List.{List}
-use mathlib.Core.Logic.{_⊎_, inl, inr}
-use Prim.Native.Nat.{ℕ, _+_, _-_, _<_, _≤_, min}
+use Prim.Native.Nat.{ℕ, _+_, _-_, _<_, _≤_}
 use native.Mathlib.Omega.{arith}
 use lib.Dec.{leb}
-use Rattle.std.proofs.shelf.Tests.{le-leb, lt-leb, cond-true, cond-false, cases-bool}
+use Rattle.std.proofs.shelf.Tests.{le-leb, lt-leb, cond-true, cond-false}
 use Rattle.std.specs.declared.option.Option.{Option}
-use Rattle.std.specs.declared.option.Option.the-variants.{Some, None}
+use Rattle.std.specs.declared.option.Option.the-variants.{Some}
 use Rattle.rules.specs.declared.term.Term.{Term}
 use Rattle.rules.specs.Rules.{Pattern, Rule}
 use Rattle.rules.specs.Books.{BookMeaning, Well-formed, Well-formed-book}
@@ -16,15 +15,15 @@ use Rattle.rules.specs.Doubled.{doubled-rows, doubled-pairs}
 use Rattle.law.specs.declared.outcome.Stop.the-variants.{Spent, Rest}
 use Rattle.law.specs.declared.outcome.Verdict.{Verdict}
 use Rattle.law.specs.Groups.{State}
-use Rattle.law.specs.Runs.{Clashing, At-rest, Merges, Run, Ended, clash-met, pairs-met, pairs-apart}
-use Rattle.law.specs.Calls.{Started, View, Blank, Going, moved, Answer, Made, Advances, still-blank, advance-width, stopped, spent, rests, clashes}
-use Rattle.law.specs.Promise.{Turn, last-view, target-of, History}
+use Rattle.law.specs.Runs.{Clashing, At-rest, Merges, Ended, clash-met, pairs-met, pairs-apart}
+use Rattle.law.specs.Calls.{Started, View, Answer, Made, Advances, still-blank, advance-width, stopped, spent, rests, clashes}
+use Rattle.law.specs.Promise.{target-of}
 use Rattle.law.specs.Laws.{due, merges-of, Answers-due}
 use Rattle.law.proofs.Starting.{Fit, starts-fit}
 use Rattle.law.proofs.Sound.{Impossible, clash-impossible}
 use Rattle.law.proofs.Lawful.{Lawful, merges-lawful, run-lawful}
 use Rattle.law.proofs.Histories.{true-false, Good, Sane, history-sane}
-use Rattle.law.proofs.Ends.{End-from, ends-from}
+use Rattle.law.proofs.Ends.{ends-from}
 use Rattle.law.proofs.SameEnd.{some-one, none-some, same-shown, same-merges, never-both}
 
 due-spent : (left n : ℕ) → n ≤ left → Made n Spent ≡ due left n

@@ -1,5 +1,5 @@
 -- Every trial ends.
-use mathlib.Core.Path.{_≡_, refl, sym, ap, _∙_, subst}
+use mathlib.Core.Path.{_≡_, refl, sym, subst}
 use mathlib.Core.Bool.{Bool, true, false, cond}
 use mathlib.Core.List.{List, [], _∷_, List·Memᴰ·head, List·Memᴰ·tail, List·Memᴰ·cases-cons}
 use mathlib.Core.Logic.{_⊎_, inl, inr}
@@ -14,13 +14,13 @@ use Rattle.rules.specs.Books.{BookMeaning, base, Well-formed-book}
 use Rattle.law.specs.declared.outcome.Verdict.{Verdict}
 use Rattle.law.specs.declared.outcome.Verdict.the-variants.{Void, Follows, Fails}
 use Rattle.law.specs.Groups.{State, current}
-use Rattle.law.specs.Runs.{Open-spot, Merge, Clashing, At-rest, Merges, none, more, Reached, Ended, clash-met, pairs-met, pairs-apart}
-use Rattle.law.specs.Calls.{Started, View, Blank, Going, moved, Finished, Finishes, never-begun, clashed-before, ended}
-use Rattle.law.specs.Promise.{Turn, last-view, target-of, History}
+use Rattle.law.specs.Runs.{Merge, Clashing, At-rest, Merges, none, more, Reached, Ended, clash-met, pairs-met, pairs-apart}
+use Rattle.law.specs.Calls.{View, Blank, Going, moved, Finished, Finishes, never-begun, clashed-before, ended}
+use Rattle.law.specs.Promise.{last-view, target-of}
 use Rattle.law.specs.Laws.{Every-trial-ends}
 use Rattle.law.proofs.Starting.{Fit}
-use Rattle.law.proofs.Lawful.{Lawful, merge-lawful, merges-lawful, few-merges}
-use Rattle.law.proofs.Histories.{Good, Sane, good-fit, history-sane}
+use Rattle.law.proofs.Lawful.{Lawful, merges-lawful, few-merges}
+use Rattle.law.proofs.Histories.{Sane, good-fit, history-sane}
 use Rattle.law.proofs.Search.{Found, nothing, spot, find-spot, found-open, nothing-open}
 
 -- the state after the groups that show as x and y are made one

@@ -2,13 +2,12 @@
 use mathlib.Core.Path.{_≡_, refl, sym, ap, _∙_, subst}
 use mathlib.Core.Bool.{Bool, true, false}
 use mathlib.Core.List.{List, [], _∷_, _++_, List·Memᴰ·head, List·Memᴰ·tail, List·Memᴰ·cases-cons, List·Memᴰ·append-cases}
-use mathlib.Core.Logic.{_⊎_, _≢_, inl, inr}
+use mathlib.Core.Logic.{_⊎_, inl, inr}
 use Prim.Native.Nat.{ℕ, zero, suc, _+_}
 use native.Mathlib.Omega.{arith}
 use Rattle.std.specs.shelf.Maps.{nth}
 use Rattle.std.specs.declared.option.Option.{Option}
 use Rattle.std.specs.declared.option.Option.the-variants.{Some, None}
-use Rattle.rules.specs.declared.term.Term.{Term}
 use Rattle.rules.specs.Rules.{_∈_, Pattern, Rule}
 use Rattle.rules.specs.Books.{BookMeaning, Well-formed, Well-formed-book}
 use Rattle.rules.specs.Doubled.{doubled-rows, doubled-pairs}
@@ -164,21 +163,25 @@ last-more : (x : View) (views : List View) (y : View) → last-view x (views ++ 
 last-more x [] y = refl
 last-more x (z ∷ views) y = last-more z views y
 
--- a history goes on by one step
-pub history-more : (b : BookMeaning) (turns : List Turn) (views : List View) (x : View) → Leads-to b turns views x →
-    (t : Turn) → Given b t → (y : View) → Steps (t .book) (t .call) x (t .answer) y → Leads-to b (turns ++ (t ∷ [])) (views ++ (y ∷ [])) y
-history-more b turns views x l t given y step =
+-- a history with one call added
+pub history-added : (b : BookMeaning) (turns : List Turn) (views : List View) (x : View) → Leads-to b turns views x →
+    (t : Turn) → Given b t → (y : View) → Answered Blank (turns ++ (t ∷ [])) (views ++ (y ∷ [])) → Leads-to b (turns ++ (t ∷ [])) (views ++ (y ∷ [])) y
+history-added b turns views x l t given y answered =
     record {
-      history = record {
-        given = λ u m. go u (List·Memᴰ·append-cases turns m);
-        answered = answered-more (l .history .answered) t y (subst (λ (z : View). Steps (t .book) (t .call) z (t .answer) y) (sym (l .ends-at)) step);
-      };
+      history = record { given = λ u m. go u (List·Memᴰ·append-cases turns m); answered = answered };
       ends-at = last-more Blank views y;
     }
   where
     go : (u : Turn) → (u ∈ turns) ⊎ (u ∈ (t ∷ [])) → Given b u
     go u (inl m) = l .history .given u m
     go u (inr m) = elim (List·Memᴰ·cases-cons m) [ inl e ↦ subst (Given b) (sym e) given | inr k ↦ elim k [ ] ]
+
+-- a history goes on by one step
+pub history-more : (b : BookMeaning) (turns : List Turn) (views : List View) (x : View) → Leads-to b turns views x →
+    (t : Turn) → Given b t → (y : View) → Steps (t .book) (t .call) x (t .answer) y → Leads-to b (turns ++ (t ∷ [])) (views ++ (y ∷ [])) y
+history-more b turns views x l t given y step =
+    history-added b turns views x l t given y
+    (answered-more (l .history .answered) t y (subst (λ (z : View). Steps (t .book) (t .call) z (t .answer) y) (sym (l .ends-at)) step))
 
 -- no call yet
 pub history-none : (b : BookMeaning) → Leads-to b [] [] Blank

@@ -1,7 +1,7 @@
 -- Every list of calls keeps the promise.
-use mathlib.Core.Path.{_≡_, refl, sym, ap, _∙_, subst}
+use mathlib.Core.Path.{_≡_, refl, sym, _∙_, subst}
 use mathlib.Core.Bool.{Bool, true, false}
-use mathlib.Core.List.{List, [], _∷_, _++_, List·Memᴰ·cases-cons, List·Memᴰ·append-cases}
+use mathlib.Core.List.{List, [], _∷_, List·Memᴰ·cases-cons, List·Memᴰ·append-cases}
 use mathlib.Core.Logic.{_↔_, _⊎_, inl, inr}
 use Prim.Native.Nat.{ℕ, _<_, _≤_}
 use native.Mathlib.Omega.{arith}
@@ -11,7 +11,7 @@ use Rattle.std.specs.declared.option.Option.the-variants.{Some, None}
 use Rattle.rules.specs.declared.term.Term.{Term}
 use Rattle.rules.specs.Rules.{_∈_, Relation, Pattern, Rule}
 use Rattle.rules.specs.Books.{BookMeaning, base, Stands, Well-formed-book}
-use Rattle.rules.specs.Doubled.{doubled-rows, doubled-pairs}
+use Rattle.rules.specs.Doubled.{doubled-rows}
 use Rattle.law.specs.declared.outcome.Verdict.{Verdict}
 use Rattle.law.specs.declared.outcome.Verdict.the-variants.{Void, Follows, Fails}
 use Rattle.law.specs.Implied.{Implied, Counterexample}

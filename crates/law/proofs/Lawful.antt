@@ -1,13 +1,13 @@
 -- What is so in every state that merges lead to.
-use mathlib.Core.Path.{_≡_, refl, sym, ap, _∙_, subst}
+use mathlib.Core.Path.{_≡_, subst}
 use mathlib.Core.List.{List}
 use Prim.Native.Nat.{ℕ, suc, _+_, _≤_}
 use native.Mathlib.Omega.{arith}
 use Rattle.rules.specs.Rules.{_∈_, Relation, Pattern, Rule}
 use Rattle.rules.specs.Books.{BookMeaning}
 use Rattle.law.specs.Groups.{State, Alone, current, symbol-count, group-count}
-use Rattle.law.specs.Runs.{Open-spot, Merge, Clashing, At-rest, Merges, none, more, Run}
-use Rattle.law.specs.Laws.{More-rules, More-rules-still-a-run}
+use Rattle.law.specs.Runs.{Open-spot, Merge, Clashing, Merges, none, more, Run}
+use Rattle.law.specs.Laws.{More-rules-still-a-run}
 use Rattle.law.proofs.Starting.{Fit}
 use Rattle.law.proofs.Sound.{Sound, alone-sound, merge-sound}
 use Rattle.law.proofs.Shown.{Shape, alone-shape, merge-shape, merge-counts, alone-counts, few-symbols}
@@ -46,7 +46,7 @@ module _ (b : BookMeaning) (start : Pattern) (fit : Fit b start) where
   pub few-merges : (s : State) (n : ℕ) → Lawful b start s n → n ≤ 64
   few-merges s n l =
       let e = l .counted in
-      let k = few-symbols b start fit in
+      let k = few-symbols start (fit .near) in
       omega arith
 
 -- with more rules an open spot is still open, and a run is still a run

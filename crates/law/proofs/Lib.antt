@@ -8,6 +8,7 @@ pub mod Reading
 pub mod Verdicts
 pub mod Histories
 pub mod Kept
+pub mod Placings
 pub mod Search
 pub mod Ends
 pub mod SameEnd
@@ -16,3 +17,4 @@ pub mod RunEnds
 pub mod Due
 pub mod Stands
 pub mod Unmoved
+pub mod Deciding

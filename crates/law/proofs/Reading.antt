@@ -1,9 +1,9 @@
 -- Entries read by their places in rows.
-use mathlib.Core.Path.{_≡_, refl, sym, ap, _∙_, subst}
+use mathlib.Core.Path.{_≡_, refl, sym, ap, _∙_}
 use mathlib.Core.List.{List, [], _∷_, map, List·Memᴰ·head, List·Memᴰ·tail}
 use Prim.Native.Nat.{ℕ, zero, suc}
-use native.Mathlib.Omega.{arith}
 use Rattle.std.specs.shelf.Maps.{nth}
+use Rattle.std.specs.Options.{mapped}
 use Rattle.std.specs.declared.option.Option.{Option}
 use Rattle.std.specs.declared.option.Option.the-variants.{Some, None}
 use Rattle.rules.specs.declared.term.Term.{Term}
@@ -12,20 +12,25 @@ use Rattle.rules.specs.Rules.{_∈_, Pattern, at}
 use Rattle.rules.specs.Books.{Stands, within}
 use Rattle.law.specs.Groups.{Entry, State, current, place, Reads}
 
-nth-map : {A B : Type 0} (f : A → B) (xs : List A) (i : ℕ) (x : A) → nth xs i ≡ Some x → nth (map f xs) i ≡ Some (f x)
-nth-map f [] i x e = let z : _≡_ {A = ℕ} 0 1 = cc in absurd (omega arith)
-nth-map f (y ∷ ys) zero x e = let z : y ≡ x = cc in ap (λ a. Some (f a)) z
-nth-map f (y ∷ ys) (suc i) x e = nth-map f ys i x e
+nth-map : {A B : Type 0} (f : A → B) (xs : List A) (i : ℕ) → nth (map f xs) i ≡ mapped f (nth xs i)
+nth-map f [] i = refl
+nth-map f (x ∷ xs) zero = refl
+nth-map f (x ∷ xs) (suc i) = nth-map f xs i
 
-within-some : {A B : Type 0} (o : Option A) (f : A → Option B) (y : B) → within o f ≡ Some y → (x : A) × (o ≡ Some x) × (f x ≡ Some y)
-within-some None f y e = let z : _≡_ {A = ℕ} 0 1 = cc in absurd (omega arith)
-within-some (Some x) f y e = (x, refl, e)
+within-map : {A B C : Type 0} (g : A → B) (f : B → Option C) (o : Option A) → within (mapped g o) f ≡ within o (λ a. f (g a))
+within-map g f None = refl
+within-map g f (Some a) = refl
+
+mapped-within : {A B C : Type 0} (f : A → Option B) (g : B → C) (h : A → Option C) → ((a : A) → h a ≡ mapped g (f a)) → (o : Option A) →
+    within o h ≡ mapped g (within o f)
+mapped-within f g h e None = refl
+mapped-within f g h e (Some a) = e a
 
 -- what stands in a place of rows stands there mapped when each entry is mapped
-place-map : {A B : Type 0} (f : A → B) (rows : List (List A)) (i j : ℕ) (x : A) → place rows i j ≡ Some x → place (map (map f) rows) i j ≡ Some (f x)
-place-map {A} f rows i j x e =
-    let q = within-some (nth rows i) (λ row. nth row j) x e in
-    ap (λ o. within o (λ row. nth row j)) (nth-map (map f) rows i (q .0) (q .1)) ∙ nth-map f (q .0) j x (q .2)
+pub place-map : {A B : Type 0} (f : A → B) (rows : List (List A)) (i j : ℕ) → place (map (map f) rows) i j ≡ mapped f (place rows i j)
+place-map f rows i j =
+    ap (λ o. within o (λ row. nth row j)) (nth-map (map f) rows i) ∙ within-map (map f) (λ row. nth row j) (nth rows i) ∙
+    mapped-within (λ row. nth row j) f (λ row. nth (map f row) j) (λ row. nth-map f row j) (nth rows i)
 
 member-nth : {A : Type 0} (xs : List A) (x : A) → x ∈ xs → (i : ℕ) × (nth xs i ≡ Some x)
 member-nth [] x m = elim m [ ]
@@ -42,7 +47,7 @@ stands-place start v s =
 -- in the current rows each entry reads as what it shows as, and as nothing else
 pub reads-shown : (start : Pattern) (s : State) (e : Term) → Reads start (current start s) e (at s e)
 reads-shown start s (Constant c) = refl
-reads-shown start s (Variable v) = λ i j k. place-map (at s) start i j (Variable v) k
+reads-shown start s (Variable v) = λ i j k. place-map (at s) start i j ∙ ap (mapped (at s)) k
 
 pub shown-read : (start : Pattern) (s : State) (e : Term) → Entry start e → (n : ℕ) → Reads start (current start s) e n → n ≡ at s e
 shown-read start s (Constant c) k n r = r

@@ -1,27 +1,26 @@
 -- Runs as the histories of trials that start and finish.
-use mathlib.Core.Path.{_≡_, refl, sym, ap, _∙_, subst}
-use mathlib.Core.Bool.{Bool, false}
+use mathlib.Core.Path.{_≡_, refl, sym, subst}
+use mathlib.Core.Bool.{Bool}
 use mathlib.Core.List.{List, [], _∷_, List·Memᴰ·cases-cons}
-use mathlib.Core.Logic.{_⊎_, inl, inr}
+use mathlib.Core.Logic.{inl, inr}
 use Prim.Native.Nat.{ℕ, suc, _+_}
 use native.Mathlib.Omega.{arith}
-use Rattle.std.specs.declared.option.Option.the-variants.{Some}
-use Rattle.rules.specs.Rules.{_∈_, Pattern, Rule}
+use Rattle.rules.specs.Rules.{Pattern, Rule}
 use Rattle.rules.specs.Books.{BookMeaning, Well-formed, Well-formed-book}
 use Rattle.rules.specs.Doubled.{doubled-rows, doubled-pairs}
 use Rattle.law.specs.declared.outcome.Verdict.{Verdict}
 use Rattle.law.specs.Groups.{State, Alone}
 use Rattle.law.specs.Runs.{Merges, none, more, Run, Ended}
-use Rattle.law.specs.Calls.{Started, View, Blank, Going, fresh, moved, Start, Done, begun, Finished, Finishes, ended}
-use Rattle.law.specs.Promise.{Turn, no-turn, next, target-of, Given, History}
-use Rattle.law.specs.Laws.{Same-end, Every-run-ends, Same-run-end, Runs-end-alike}
+use Rattle.law.specs.Calls.{Going, fresh, moved, Start, Done, begun, Finishes, ended}
+use Rattle.law.specs.Promise.{Turn, no-turn, next, Given, History}
+use Rattle.law.specs.Laws.{Every-run-ends, Same-run-end, Runs-end-alike}
 use Rattle.law.proofs.Starting.{starts-fit}
 use Rattle.law.proofs.Lawful.{run-lawful}
 use Rattle.law.proofs.Ends.{ends-from}
 use Rattle.law.proofs.SameEnd.{same-end}
 
 -- merges after merges
-merges-after : (rules : List Rule) (start : Pattern) (s₀ s : State) (n : ℕ) → Merges rules start s₀ s n → {s′ : State} {m : ℕ} →
+pub merges-after : (rules : List Rule) (start : Pattern) (s₀ s : State) (n : ℕ) → Merges rules start s₀ s n → {s′ : State} {m : ℕ} →
     Merges rules start s s′ m → Merges rules start s₀ s′ (n + m)
 merges-after rules start s₀ s n first none = let k : n ≡ n + 0 = omega arith in subst (Merges rules start s₀ s) k first
 merges-after rules start s₀ s n first {s′} (more {m = m} rest step) =
@@ -74,7 +73,7 @@ module _ (b : BookMeaning) (fits : Well-formed-book b) (t : Rule) (target-fits :
         answered = next (begun refl refl alone) no-turn;
       }
 
-  run-finishes : (s : State) (n : ℕ) (r : Run (b .rules) (doubled-rows t) s n) (clash : Bool) (v : Verdict) →
+  pub run-finishes : (s : State) (n : ℕ) (r : Run (b .rules) (doubled-rows t) s n) (clash : Bool) (v : Verdict) →
       Ended (b .rules) (doubled-rows t) (doubled-pairs t) s clash v →
       Finishes b (Going (fresh (b .width) t (r .first))) (record { verdict = v; left = Going (moved (fresh (b .width) t (r .first)) s n clash) })
   run-finishes s n r clash v e = ended refl refl (r .merges) e

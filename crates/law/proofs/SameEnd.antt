@@ -1,33 +1,32 @@
 -- Two finished trials of one target end alike.
-use mathlib.Core.Path.{_≡_, refl, sym, ap, ap₂, _∙_, subst}
-use mathlib.Core.Bool.{Bool, true, false}
+use mathlib.Core.Path.{_≡_, refl, sym, ap, _∙_, subst}
+use mathlib.Core.Bool.{true, false}
 use mathlib.Core.List.{List, map}
 use mathlib.Core.Logic.{_⊎_, inl, inr}
-use Prim.Native.Nat.{ℕ, _+_, _<_, _≤_}
+use Prim.Native.Nat.{ℕ, _<_, _≤_}
 use native.Mathlib.Omega.{arith}
 use Rattle.std.proofs.shelf.Tests.{cases-lt, cases-bool}
 use Rattle.std.specs.declared.option.Option.{Option}
 use Rattle.std.specs.declared.option.Option.the-variants.{Some, None}
 use Rattle.rules.specs.declared.term.Term.{Term}
 use Rattle.rules.specs.declared.term.Term.the-variants.{Constant, Variable}
-use Rattle.rules.specs.Rules.{_∈_, Pattern, Rule, at}
+use Rattle.rules.specs.Rules.{Pattern, Rule, at}
 use Rattle.rules.specs.Books.{BookMeaning, base, Stands, Well-formed-book}
 use Rattle.rules.specs.Doubled.{doubled-rows}
 use Rattle.rules.proofs.Members.{map-on}
 use Rattle.law.specs.declared.outcome.Verdict.{Verdict}
 use Rattle.law.specs.declared.outcome.Verdict.the-variants.{Void, Follows, Fails}
-use Rattle.law.specs.Implied.{Implied}
 use Rattle.law.specs.Groups.{Entry, State, One-group, current, symbols, different, unknowns, group-count}
 use Rattle.law.specs.Runs.{At-rest}
-use Rattle.law.specs.Calls.{Started, View, Blank, Going, Finished, Finishes, rows-of, rows-told, finished-rows}
-use Rattle.law.specs.Promise.{Turn, last-view, target-of, History}
+use Rattle.law.specs.Calls.{Started, Going, Finished, rows-told}
+use Rattle.law.specs.Promise.{target-of}
 use Rattle.law.specs.Laws.{Same-left, Same-end, Same-end-whichever-spots}
 use Rattle.law.proofs.Starting.{Fit}
 use Rattle.law.proofs.Sound.{Impossible, forced, placed-here, rest-model, rest-exact}
 use Rattle.law.proofs.Shown.{Least, symbol-stands}
 use Rattle.law.proofs.Lawful.{Lawful}
 use Rattle.law.proofs.Verdicts.{impossible-implied, no-counterexample}
-use Rattle.law.proofs.Histories.{true-false, Good, good-fit, history-sane}
+use Rattle.law.proofs.Histories.{Good, good-fit, history-sane}
 use Rattle.law.proofs.Kept.{Told, Known-end, at-blank, at-told, known-end}
 
 -- two lawful states at rest

@@ -1,7 +1,7 @@
 -- What the groups show as, and how many there are.
 use mathlib.Core.Path.{_≡_, refl, sym, ap, ap₂, _∙_, subst}
 use mathlib.Core.Bool.{Bool, true, false, cond, _||_}
-use mathlib.Core.List.{List, [], _∷_, _++_, map, List·Memᴰ·head, List·Memᴰ·tail, List·Memᴰ·cases-cons, Memᴰ·cast, Memᴰ·map, Memᴰ·of-map, Memᴰ·append-left, Memᴰ·append-right, List·Memᴰ·append-cases}
+use mathlib.Core.List.{List, [], _∷_, map, List·Memᴰ·head, List·Memᴰ·tail, List·Memᴰ·cases-cons, Memᴰ·cast, Memᴰ·map, Memᴰ·of-map, Memᴰ·append-left, Memᴰ·append-right, List·Memᴰ·append-cases}
 use mathlib.Core.Logic.{_⊎_, _≢_, inl, inr}
 use Prim.Native.Nat.{ℕ, suc, _+_, _-_, _<_, _≤_, min, max}
 use native.Mathlib.Omega.{arith}
@@ -10,14 +10,13 @@ use Rattle.std.proofs.shelf.Tests.{cond-true, cond-false, eq-eqb, ne-eqb, le-lt
 use Rattle.rules.specs.declared.term.Term.{Term}
 use Rattle.rules.specs.declared.term.Term.the-variants.{Constant, Variable}
 use Rattle.rules.specs.Rules.{_∈_, Pattern, Valuation, at, Places, Rule}
-use Rattle.rules.specs.Books.{BookMeaning, base, Known, Stands}
+use Rattle.rules.specs.Books.{base, Known, Stands}
 use Rattle.rules.specs.Doubled.{holds}
 use Rattle.law.specs.Groups.{State, Alone, current, different, row-symbols, symbols, unknowns, symbol-count, group-count}
-use Rattle.law.specs.Runs.{Open-spot, Merge}
+use Rattle.law.specs.Runs.{Open-spot, Merge, Merges, none, more}
 use Rattle.law.specs.Stored.{Held}
 use Rattle.law.proofs.Lists.{at-max, at-min}
-use Rattle.law.proofs.Counts.{different-less, different-most}
-use Rattle.law.proofs.Starting.{Fit}
+use Rattle.law.proofs.Counts.{different-less, different-most, different-part, different-image}
 
 -- the symbols of rows are those that stand in them
 row-member : (row : List Term) (v : ℕ) → Variable v ∈ row → v ∈ row-symbols row
@@ -245,5 +244,30 @@ module _ (s : State) where
       ap different (unknown-alone (symbols start) all) ∙ different-alone (symbols start) all
 
 -- there are at most 64 starting symbols
-pub few-symbols : (b : BookMeaning) (start : Pattern) → Fit b start → symbol-count start ≤ 64
-few-symbols b start fit = different-most (symbols start) 64 (λ v m. fit .near v (symbol-stands start v m))
+pub few-symbols : (start : Pattern) → ((v : ℕ) → Stands v start → v < 64) → symbol-count start ≤ 64
+few-symbols start near = different-most (symbols start) 64 (λ v m. near v (symbol-stands start v m))
+
+-- there are no more groups than starting symbols
+pub groups-most : (start : Pattern) (s : State) → group-count start s ≤ symbol-count start
+groups-most start s =
+    let a = different-part (unknowns (map s (symbols start))) (map s (symbols start)) (λ n m. member-unknown (map s (symbols start)) n m .0) in
+    let e = different-image s (symbols start) in
+    omega arith
+
+-- m merges leave m groups less
+pub merges-counts : (width : ℕ) (rules : List Rule) (start : Pattern) → Held width rules start → (s : State) {s′ : State} {m : ℕ} →
+    Merges rules start s s′ m → m + group-count start s′ ≡ group-count start s
+merges-counts width rules start held s none = omega arith
+merges-counts width rules start held s {s′} (more {s′ = s₁} merges step) =
+    let before = merges-counts width rules start held s merges in
+    let e = merge-counts width rules start held s₁ s′ step in
+    omega arith
+
+-- so at most 64 merges are made from any state
+pub merges-few : (width : ℕ) (rules : List Rule) (start : Pattern) → Held width rules start → ((v : ℕ) → Stands v start → v < 64) →
+    (s : State) {s′ : State} {m : ℕ} → Merges rules start s s′ m → m ≤ 64
+merges-few width rules start held near s merges =
+    let e = merges-counts width rules start held s merges in
+    let most = groups-most start s in
+    let few = few-symbols start near in
+    omega arith

@@ -1,9 +1,9 @@
 -- What is merged is forced, and at rest nothing else is.
-use mathlib.Core.Path.{_≡_, refl, sym, ap, _∙_, subst}
+use mathlib.Core.Path.{_≡_, refl, sym, ap, _∙_}
 use mathlib.Core.Bool.{cond}
 use mathlib.Core.List.{List, map, map-map, Memᴰ·cast, Memᴰ·map, Memᴰ·of-map}
-use mathlib.Core.Logic.{_↔_, _⊎_, inl, inr}
-use Prim.Native.Nat.{ℕ, suc, _+_, _-_, _<_, _≤_, min, max}
+use mathlib.Core.Logic.{inl, inr}
+use Prim.Native.Nat.{ℕ, _+_, _-_, _<_, _≤_, min, max}
 use native.Mathlib.Omega.{arith}
 use lib.Dec.{eqb, ltb}
 use lib.ListN.{length, length-map}
@@ -12,7 +12,7 @@ use Rattle.rules.specs.declared.term.Term.{Term}
 use Rattle.rules.specs.declared.term.Term.the-variants.{Constant, Variable}
 use Rattle.rules.specs.declared.term.Kind.{Kind}
 use Rattle.rules.specs.declared.term.Kind.the-variants.{Functional, Equality}
-use Rattle.rules.specs.Rules.{_∈_, Relation, Pattern, Valuation, at, Places, Rule, Agree, Compares, Keeps}
+use Rattle.rules.specs.Rules.{_∈_, Relation, Pattern, Valuation, at, Places, Rule, Agree, Keeps}
 use Rattle.rules.specs.Books.{BookMeaning, base, Small, Stands}
 use Rattle.rules.proofs.Members.{map-on}
 use Rattle.law.specs.Implied.{Model}
@@ -149,3 +149,8 @@ module _ (b : BookMeaning) (start : Pattern) (fit : Fit b start) where
   -- at rest what is forced is in one group
   pub rest-exact : (s : State) → At-rest (b .rules) start s → (e e′ : Term) → Forced b start e e′ → One-group s e e′
   rest-exact s rest e e′ all = all (current start s) (rest-model s rest) s (placed-here s)
+
+-- where the current rows keep each rule nothing is open
+pub kept-rest : (rules : List Rule) (start : Pattern) (s : State) → ((r : Rule) → r ∈ rules → Keeps (current start s) r) → At-rest rules start s
+kept-rest rules start s keeps x y o =
+    o .differ (sym (o .left-is) ∙ keeps (o .rule) (o .listed) (o .first) (o .second) (o .compared) (o .pair) (o .paired) ∙ o .right-is)

@@ -2,19 +2,18 @@
 use mathlib.Core.Path.{_≡_, refl, sym, ap, _∙_, subst}
 use mathlib.Core.Bool.{cond}
 use mathlib.Core.List.{List, [], _∷_, map, List·Memᴰ·head, List·Memᴰ·tail, Memᴰ·of-map}
-use mathlib.Core.Logic.{_⊎_, inl, inr}
 use Prim.Native.Nat.{ℕ, zero, suc, _+_, _<_, _≤_, min, max}
 use native.Mathlib.Omega.{arith}
 use lib.Dec.{eqb}
-use lib.ListN.{length, getD, List·getD-map}
+use lib.ListN.{getD, List·getD-map}
 use Rattle.std.proofs.shelf.Tests.{cond-false, cond-both, ne-eqb}
 use Rattle.rules.specs.Rules.{_∈_, Pattern, Rule}
-use Rattle.rules.specs.Books.{base, Stands}
-use Rattle.law.specs.Groups.{State, current}
+use Rattle.rules.specs.Books.{base}
+use Rattle.law.specs.Groups.{current}
 use Rattle.law.specs.Runs.{Open-spot, Merge}
 use Rattle.law.specs.Stored.{stored, replaced, Held, Small-numbers, Storing}
 use Rattle.law.proofs.Lists.{at-max}
-use Rattle.law.proofs.Shown.{Shown-by, left-shown, right-shown, merge-counts}
+use Rattle.law.proofs.Shown.{Shown-by, left-shown, right-shown, merge-counts, merges-few}
 
 -- a pass that replaces a number other than 0 is a pass over what is stored
 pass-stored : (shown : List ℕ) (one other : ℕ) → (0 ≡ one → ⊥) → (v : ℕ) → stored (replaced one other shown) v ≡ cond (eqb (stored shown v) one) other (stored shown v)
@@ -60,5 +59,6 @@ storing =
       less = λ width rules start held shown x y o l.
           merge-counts width rules start held (stored shown) (stored (replaced (max x y) (min x y) shown))
           (pass rules start shown x y o l);
+      few = λ width rules start held near s s′ m merges. merges-few width rules start held near s merges;
       small = small;
     }

@@ -1,16 +1,16 @@
 -- Keeping a rule is unmoved by a renaming.
 use mathlib.Core.Path.{_≡_, refl, sym, ap, ap₂, _∙_, subst}
-use mathlib.Core.Bool.{Bool, true, false, cond}
-use mathlib.Core.List.{List, [], _∷_, _++_, map, map-map, List·Memᴰ·head, List·Memᴰ·tail, List·Memᴰ·cases-cons, Memᴰ·cast, Memᴰ·map, Memᴰ·of-map, Memᴰ·append-left, Memᴰ·append-right}
-use mathlib.Core.Logic.{_↔_, _⊎_, inl, inr}
-use Prim.Native.Nat.{ℕ, _<_, _≤_}
+use mathlib.Core.Bool.{cond}
+use mathlib.Core.List.{List, [], _∷_, map, map-map, List·Memᴰ·head, List·Memᴰ·tail, List·Memᴰ·cases-cons, Memᴰ·cast, Memᴰ·map, Memᴰ·of-map, Memᴰ·append-left, Memᴰ·append-right}
+use mathlib.Core.Logic.{_⊎_, inl, inr}
+use Prim.Native.Nat.{ℕ, _<_}
 use native.Mathlib.Omega.{arith}
 use lib.Dec.{eqb}
-use Rattle.std.proofs.shelf.Tests.{cond-both, cases-eq, cases-lt, eqb-true, eqb-false}
+use Rattle.std.proofs.shelf.Tests.{cond-both, cases-lt, eqb-true, eqb-false}
 use Rattle.rules.specs.declared.term.Term.{Term}
 use Rattle.rules.specs.declared.term.Term.the-variants.{Constant, Variable}
-use Rattle.rules.specs.Rules.{_∈_, Relation, Pattern, Valuation, at, Places, Rule, Compares, Keeps}
-use Rattle.rules.specs.Books.{base, Small, Known, Well-formed}
+use Rattle.rules.specs.Rules.{_∈_, Relation, Valuation, at, Places, Rule, Keeps}
+use Rattle.rules.specs.Books.{base, Known, Well-formed}
 use Rattle.rules.proofs.Members.{map-on}
 use Rattle.law.specs.Renaming.{numbers, Renaming, Keeping-unmoved}
 use Rattle.law.proofs.Starting.{Low, small-low, known-low}

@@ -1,14 +1,12 @@
 -- What the end of a trial says of its target.
-use mathlib.Core.Path.{_≡_, refl, sym, _∙_, subst}
-use mathlib.Core.List.{List}
+use mathlib.Core.Path.{refl, sym, _∙_, subst}
 use mathlib.Core.Logic.{_↔_}
-use Prim.Native.Nat.{ℕ}
 use Rattle.rules.specs.declared.term.Term.{Term}
-use Rattle.rules.specs.Rules.{_∈_, Relation, Rule, at, Keeps, Compares}
+use Rattle.rules.specs.Rules.{Relation, Rule, at, Keeps}
 use Rattle.rules.specs.Books.{BookMeaning, Well-formed, Well-formed-book}
 use Rattle.rules.specs.Doubled.{doubled-rows, doubled-pairs, doubled}
 use Rattle.rules.proofs.Doubles.{doubling, at-same}
-use Rattle.law.specs.Implied.{Model, Implied, Counterexample}
+use Rattle.law.specs.Implied.{Implied, Counterexample}
 use Rattle.law.specs.Groups.{Entry, Forced, State, current, Reads, Read-alike}
 use Rattle.law.specs.Runs.{At-rest, Reached}
 use Rattle.law.proofs.Starting.{Fit, starts-fit, pair-entries}

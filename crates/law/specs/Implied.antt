@@ -1,5 +1,4 @@
 -- What follows from a book.
-use Prim.Native.Nat.{ℕ}
 use Rattle.rules.specs.Rules.{_∈_, Relation, Of-width, Rule, Keeps, Breaks}
 use Rattle.rules.specs.Books.{BookMeaning}
 

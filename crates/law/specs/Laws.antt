@@ -2,15 +2,17 @@
 use mathlib.Core.Path.{_≡_}
 use mathlib.Core.Bool.{Bool, false, cond}
 use mathlib.Core.List.{List}
+use mathlib.Core.Logic.{_↔_, _⊎_}
 use Prim.Native.Nat.{ℕ, _+_, _-_, _<_, _≤_}
 use lib.Dec.{leb}
 use Rattle.std.specs.declared.option.Option.the-variants.{Some}
 use Rattle.rules.specs.declared.term.Term.the-variants.{Variable}
-use Rattle.rules.specs.Rules.{_∈_, Pattern, Rule}
+use Rattle.rules.specs.Rules.{_∈_, Relation, Pattern, Rule}
 use Rattle.rules.specs.Books.{BookMeaning, base, Stands, Well-formed, Well-formed-book}
 use Rattle.rules.specs.Doubled.{doubled-rows, doubled-pairs}
 use Rattle.law.specs.declared.outcome.Stop.the-variants.{Spent, Rest}
 use Rattle.law.specs.declared.outcome.Verdict.{Verdict}
+use Rattle.law.specs.Implied.{Implied, Counterexample}
 use Rattle.law.specs.Groups.{State, One-group}
 use Rattle.law.specs.Runs.{Clashing, At-rest, Merges, Run, Ended}
 use Rattle.law.specs.Calls.{Started, View, Blank, Going, Answer, Made, Advances, Finished, Finishes, finished-rows}
@@ -109,3 +111,11 @@ pub record More-rules (rules rules′ : List Rule) : Type 0 where
 
 abbrev pub More-rules-still-a-run : Type 0
 More-rules-still-a-run = (rules rules′ : List Rule) → ((r : Rule) → r ∈ rules → r ∈ rules′) → More-rules rules rules′
+
+-- A rule is implied, or some relation keeps the book and breaks it; so it is implied exactly where none does.
+pub record Decided (b : BookMeaning) (t : Rule) : Type 0 where
+  pub either : Implied b t ⊎ ((rel : Relation) × Counterexample b t rel)
+  pub unbroken : Implied b t ↔ ((rel : Relation) → Counterexample b t rel → ⊥)
+
+abbrev pub Implied-or-broken : Type 0
+Implied-or-broken = (b : BookMeaning) → Well-formed-book b → (t : Rule) → Well-formed (b .width) t → Decided b t

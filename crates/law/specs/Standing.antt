@@ -1,7 +1,6 @@
 -- The promise as the contracts of the calls state it.
 use mathlib.Core.Path.{_≡_}
 use mathlib.Core.List.{List, [], _∷_, _++_}
-use Prim.Native.Nat.{ℕ}
 use lib.ListN.{length}
 use Rattle.rules.specs.Books.{BookMeaning, Well-formed-book}
 use Rattle.law.specs.Calls.{View, Blank, Call, Answer, Finished, Finishes}

@@ -9,7 +9,7 @@ use Rattle.rules.specs.declared.term.Term.{Term}
 use Rattle.rules.specs.Rules.{_∈_, Pattern, Rule}
 use Rattle.rules.specs.Books.{base, Stands, Well-formed}
 use Rattle.law.specs.Groups.{Entry, State, Alone, current, group-count}
-use Rattle.law.specs.Runs.{Open-spot, Merge}
+use Rattle.law.specs.Runs.{Open-spot, Merge, Merges}
 
 -- the list has what the symbols 0, 1, .. show as
 abbrev pub stored : List ℕ → State
@@ -39,7 +39,10 @@ pub record Storing : Type 0 where
   pub less : (width : ℕ) (rules : List Rule) (start : Pattern) → Held width rules start → (shown : List ℕ) (x y : ℕ) →
       Open-spot rules (current start (stored shown)) x y → base ≤ max x y →
       group-count start (stored shown) ≡ suc (group-count start (stored (replaced (max x y) (min x y) shown)))
-  -- and keeps the numbers small
+  -- from any state at most 64 merges are made
+  pub few : (width : ℕ) (rules : List Rule) (start : Pattern) → Held width rules start → ((v : ℕ) → Stands v start → v < 64) →
+      (s s′ : State) (m : ℕ) → Merges rules start s s′ m → m ≤ 64
+  -- and a pass keeps the numbers small
   pub small : (width : ℕ) (rules : List Rule) (start : Pattern) → Held width rules start → (shown : List ℕ) (x y : ℕ) →
       Open-spot rules (current start (stored shown)) x y → base ≤ max x y →
       Small-numbers shown → Small-numbers (replaced (max x y) (min x y) shown)

@@ -1,5 +1,5 @@
 // The laws of trials.
-ghost use Rattle.law.specs.Laws.{Answers-due, Every-run-ends, Every-trial-ends, Groups-show, More-rules-still-a-run, Promise-kept, Runs-end-alike, Same-end-whichever-spots};
+ghost use Rattle.law.specs.Laws.{Answers-due, Every-run-ends, Every-trial-ends, Groups-show, Implied-or-broken, More-rules-still-a-run, Promise-kept, Runs-end-alike, Same-end-whichever-spots};
 ghost use Rattle.law.specs.Renaming.{Keeping-unmoved};
 ghost use Rattle.law.specs.Standing.{Every-call-promised, Every-finish-promised};
 ghost use Rattle.law.specs.Stored.{Storing};
@@ -42,6 +42,11 @@ pub fn runs_end_alike()
 // Where a run comes to rest, its merges tell the answer to every advance.
 pub fn answers_due()
     ensures { λ _. ⌜ Answers-due ⌝ }
+{}
+
+// A rule is implied, or some relation keeps the book and breaks it.
+pub fn implied_or_broken()
+    ensures { λ _. ⌜ Implied-or-broken ⌝ }
 {}
 
 // A list of numbers holds a state, and one pass over it makes a merge.

@@ -1,9 +1,8 @@
 -- What a start and then advances answer.
 use mathlib.Core.Path.{_≡_, refl, sym, ap, ap₂, _∙_, subst}
 use mathlib.Core.List.{List, [], _∷_, map, List·Memᴰ·head, List·Memᴰ·tail}
-use Prim.Native.Nat.{ℕ, zero, suc, _-_}
+use Prim.Native.Nat.{ℕ, _-_}
 use native.Mathlib.Omega.{arith}
-use Rattle.std.specs.shelf.Maps.{nth}
 use Rattle.std.specs.declared.option.Option.{Option}
 use Rattle.std.specs.declared.option.Option.the-variants.{Some, None}
 use Rattle.rules.specs.Rules.{_∈_, Rule}
@@ -11,8 +10,8 @@ use Rattle.rules.specs.Books.{BookMeaning, Well-formed, Well-formed-book}
 use Rattle.rules.specs.Doubled.{doubled-rows}
 use Rattle.law.specs.Groups.{State}
 use Rattle.law.specs.Runs.{At-rest}
-use Rattle.law.specs.Calls.{View, Blank, Going, Call, Start, Advance, Answer, Done, Starts, not-blank, no-rule, targets-width, begun, Advances}
-use Rattle.law.specs.Promise.{Turn, Steps, Answered, no-turn, next, named, or-later, target-of, Given, History}
+use Rattle.law.specs.Calls.{View, Blank, Call, Start, Advance, Answer, Done, Starts, no-rule, targets-width, begun}
+use Rattle.law.specs.Promise.{Turn, Steps, Answered, no-turn, next, named, or-later, target-of, Given}
 use Rattle.law.specs.Laws.{due, merges-of}
 use Rattle.law.proofs.Lawful.{Lawful}
 use Rattle.law.proofs.SameEnd.{none-some}

@@ -1,12 +1,12 @@
 -- Well-formed rules, by a test that computes.
-use mathlib.Core.Path.{_≡_, refl, sym, ap, ap₂, _∙_, subst}
-use mathlib.Core.Bool.{Bool, true, false, cond, _&&_, _||_}
-use mathlib.Core.List.{List, [], _∷_, List·Memᴰ·head, List·Memᴰ·tail, List·Memᴰ·cases-cons}
+use mathlib.Core.Path.{_≡_, refl, sym, ap, _∙_}
+use mathlib.Core.Bool.{Bool, true, false, _&&_}
+use mathlib.Core.List.{List, [], _∷_, List·Memᴰ·cases-cons}
 use mathlib.Core.Logic.{_⊎_, inl, inr}
-use Prim.Native.Nat.{ℕ, _<_, _≤_}
+use Prim.Native.Nat.{ℕ}
 use lib.Dec.{eqb, ltb, leb}
 use lib.ListN.{length}
-use Rattle.std.proofs.shelf.Tests.{ltb-true, leb-true, eqb-true, false≢true, and-parts, or-cases}
+use Rattle.std.proofs.shelf.Tests.{ltb-true, leb-true, eqb-true, false≢true, and-parts}
 use Rattle.rules.specs.declared.term.Term.{Term}
 use Rattle.rules.specs.declared.term.Term.the-variants.{Constant, Variable}
 use Rattle.rules.specs.declared.term.Kind.{Kind}

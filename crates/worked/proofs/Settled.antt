@@ -1,9 +1,9 @@
 -- A search that computes where a run ends.
-use mathlib.Core.Path.{_≡_, refl, sym, ap, _∙_, subst}
+use mathlib.Core.Path.{_≡_, refl, sym, ap, ap₂, _∙_, subst}
 use mathlib.Core.Bool.{Bool, true, false, cond, _&&_}
 use mathlib.Core.List.{List, [], _∷_, List·Memᴰ·head, List·Memᴰ·tail, List·Memᴰ·cases-cons}
 use mathlib.Core.Logic.{_⊎_, inl, inr}
-use Prim.Native.Nat.{ℕ, zero, suc, _+_, _<_, _≤_, max}
+use Prim.Native.Nat.{ℕ, zero, suc, max}
 use native.Mathlib.Omega.{arith}
 use lib.Dec.{eqb, ltb}
 use Rattle.std.proofs.shelf.Tests.{ltb-true, ltb-false, eq-eqb, eqb-true, false≢true, and-parts, and-from}
@@ -13,7 +13,8 @@ use Rattle.rules.specs.Books.{BookMeaning, base}
 use Rattle.law.specs.declared.outcome.Verdict.{Verdict}
 use Rattle.law.specs.declared.outcome.Verdict.the-variants.{Follows, Fails}
 use Rattle.law.specs.Groups.{State, current}
-use Rattle.law.specs.Runs.{Merges, none, more, Run, Reached, Ended, clash-met, pairs-met, pairs-apart}
+use Rattle.law.specs.Runs.{Merges, more, Reached, Ended, clash-met, pairs-met, pairs-apart}
+use Rattle.law.specs.Calls.{Started, Going, rows-told}
 use Rattle.law.proofs.Starting.{Fit}
 use Rattle.law.proofs.Search.{Found, nothing, spot, find-spot}
 use Rattle.law.proofs.Ends.{merge-state, rest-from, merge-from, clash-from}
@@ -58,10 +59,12 @@ module _ (b : BookMeaning) (start : Pattern) (fit : Fit b start) (pairs : List (
     pub merges : Merges (b .rules) start s₀ last m
     pub ends : Ended (b .rules) start pairs last clash v
     pub rows : v ≡ Fails → current start last ≡ rel
+    pub told : (x : Started) → x .rows ≡ start → x .shows ≡ last → rows-told v (Going x) ≡ rel
 
   result : (s : State) (n : ℕ) → Merges (b .rules) start s₀ s n → (clash′ : Bool) (v′ : Verdict) (rel′ : Relation) →
-      Ended (b .rules) start pairs s clash′ v′ → (v′ ≡ Fails → current start s ≡ rel′) → gives clash′ v′ n rel′ ≡ gives clash v m rel → Result
-  result s n merges clash′ v′ rel′ ends rows e =
+      Ended (b .rules) start pairs s clash′ v′ → (v′ ≡ Fails → current start s ≡ rel′) →
+      ((x : Started) → x .rows ≡ start → x .shows ≡ s → rows-told v′ (Going x) ≡ rel′) → gives clash′ v′ n rel′ ≡ gives clash v m rel → Result
+  result s n merges clash′ v′ rel′ ends rows told e =
       let n≡ : n ≡ m = cc in
       let c≡ : clash′ ≡ clash = cc in
       let v≡ : v′ ≡ v = cc in
@@ -71,6 +74,7 @@ module _ (b : BookMeaning) (start : Pattern) (fit : Fit b start) (pairs : List (
         merges = subst (Merges (b .rules) start s₀ s) n≡ merges;
         ends = subst (λ (c : Bool). Ended (b .rules) start pairs s c v) c≡ (subst (Ended (b .rules) start pairs s clash′) v≡ ends);
         rows = λ k. rows (v≡ ∙ k) ∙ r≡;
+        told = λ x a c. sym (ap (λ (u : Verdict). rows-told u (Going x)) v≡) ∙ told x a c ∙ r≡;
       }
 
   follows-fails : Follows ≡ Fails → ⊥
@@ -79,10 +83,10 @@ module _ (b : BookMeaning) (start : Pattern) (fit : Fit b start) (pairs : List (
   rested : (s : State) (n : ℕ) → Merges (b .rules) start s₀ s n → find-spot (b .rules) (current start s) ≡ nothing → (k : Bool) → all-alike s pairs ≡ k →
       cond k (gives false Follows n []) (gives false Fails n (current start s)) ≡ gives clash v m rel → Result
   rested s n merges h true a e =
-      result s n merges false Follows [] (pairs-met (rest-from b start fit pairs s h) (alike-right s pairs a)) (λ k. absurd (follows-fails k)) e
+      result s n merges false Follows [] (pairs-met (rest-from b start fit pairs s h) (alike-right s pairs a)) (λ k. absurd (follows-fails k)) (λ x a c. refl) e
   rested s n merges h false a e =
       result s n merges false Fails (current start s)
-      (pairs-apart (rest-from b start fit pairs s h) (λ k. false≢true (sym a ∙ right-alike s pairs k))) (λ k. refl) e
+      (pairs-apart (rest-from b start fit pairs s h) (λ k. false≢true (sym a ∙ right-alike s pairs k))) (λ k. refl) (λ x a c. ap₂ current a c) e
 
   pub settled : (k : ℕ) (s : State) (n : ℕ) → Merges (b .rules) start s₀ s n → settle k (b .rules) start pairs s n ≡ gives clash v m rel → Result
   settled zero s n merges e = let z : _≡_ {A = ℕ} 0 1 = cc in absurd (omega arith)
@@ -102,5 +106,5 @@ module _ (b : BookMeaning) (start : Pattern) (fit : Fit b start) (pairs : List (
           turn : (c : Bool) → ltb (max x y) base ≡ c →
               elim c [ true ↦ gives true Follows n [] | false ↦ settle k (b .rules) start pairs (merge-state x y s) (suc n) ] ≡ gives clash v m rel → Result
           turn true l e =
-              result s n merges true Follows [] (clash-met (clash-from b start fit pairs s x y h (ltb-true (max x y) base l))) (λ k. absurd (follows-fails k)) e
+              result s n merges true Follows [] (clash-met (clash-from b start fit pairs s x y h (ltb-true (max x y) base l))) (λ k. absurd (follows-fails k)) (λ x a c. refl) e
           turn false l e = rest x y (more merges (merge-from b start fit pairs s x y h (ltb-false (max x y) base l))) e

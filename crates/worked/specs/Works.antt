@@ -12,8 +12,8 @@ use Rattle.law.specs.declared.outcome.Verdict.{Verdict}
 use Rattle.law.specs.declared.outcome.Verdict.the-variants.{Fails}
 use Rattle.law.specs.Groups.{State, current}
 use Rattle.law.specs.Runs.{Run, Ended}
-use Rattle.law.specs.Calls.{View, Start, Advance, Answer, Done}
-use Rattle.law.specs.Promise.{Turn, target-of, History}
+use Rattle.law.specs.Calls.{View, Blank, Going, Start, Advance, Done, Finished, Finishes, finished-rows}
+use Rattle.law.specs.Promise.{Turn, last-view, target-of, History}
 use Rattle.worked.specs.Cases.{Case, cases}
 
 -- a run of n merges of the case's target that ends in the state s, by a clash or not, with this verdict
@@ -25,6 +25,10 @@ pub record Ends-so (c : Case) (s : State) (n : ℕ) (clash : Bool) (v : Verdict)
 abbrev pub at-rest : Bool → ℕ → Option ℕ
 at-rest true n = None
 at-rest false n = Some n
+
+abbrev pub merges-left : View → Option ℕ
+merges-left Blank = None
+merges-left (Going x) = at-rest (x .clashed) (x .merges)
 
 -- it has the case's verdict and, at rest, the case's merges and, where it fails, the case's rows
 pub record As-told (c : Case) (s : State) (n : ℕ) (clash : Bool) (v : Verdict) : Type 0 where
@@ -38,6 +42,10 @@ pub record Works (c : Case) : Type 0 where
   -- a run that ends exists, and every run that ends is as told
   pub a-run : (s : State) × (n : ℕ) × (clash : Bool) × (v : Verdict) × Ends-so c s n clash v
   pub every-run : (s : State) (n : ℕ) (clash : Bool) (v : Verdict) → Ends-so c s n clash v → As-told c s n clash v
+  -- whatever was called before, every finish of a trial of the target gives the case's verdict, rows and merges
+  pub every-finish : (turns : List Turn) (views : List View) → History (c .book) turns views → target-of turns ≡ Some (c .target) →
+      (f : Finished) → Finishes (c .book) (last-view Blank views) f →
+      (f .verdict ≡ c .verdict) × (finished-rows f ≡ c .rows) × (merges-left (f .left) ≡ c .merges)
   -- a start on the target and then the case's advances have the case's answers
   pub every-answer : (turns : List Turn) (views : List View) → History (c .book) turns views → target-of turns ≡ Some (c .target) →
       (targets : BookMeaning) (k : ℕ) → map (λ (t : Turn). t .call) turns ≡ Start targets k ∷ map Advance (c .limits) →
