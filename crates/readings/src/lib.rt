@@ -3,6 +3,8 @@ use reader::desk::Sizes;
 use reader::fault::Cause;
 use reader::fault::ReadFault;
 use spelling::spelled::read;
+use std::alloc::AllocError;
+use std::alloc::Global;
 use text::words::Name;
 
 // The number of a cause in the table of refusals.
@@ -40,6 +42,47 @@ pub fn refused(text: &[u8], cause: u8, line: usize) -> bool {
 // Whether a text is read.
 pub fn accepted(text: &[u8]) -> bool {
     refused(text, 0, 0)
+}
+
+// A rule of 4 rows of 8 words and so many pairs: 36 words, and 2 for each pair.
+fn add_rule(text: &mut Vec<u8>, pairs: u32) -> Result<(), AllocError> {
+    text.extend_from_slice(b"equality\nrows 4\n")?;
+    for _ in 0..4u32 {
+        text.extend_from_slice(b"$a $a $a $a $a $a $a $a\n")?;
+    }
+    if pairs == 32 {
+        text.extend_from_slice(b"pairs 32\n")?;
+    } else if pairs == 30 {
+        text.extend_from_slice(b"pairs 30\n")?;
+    } else {
+        text.extend_from_slice(b"pairs 29\n")?;
+    }
+    for _ in 0..pairs {
+        text.extend_from_slice(b"$a x\n")?;
+    }
+    Ok(())
+}
+
+// A text with 41 rules that puts 4,038 words and 2 for each of the last rule's pairs into the sheet of rules.
+pub fn full_sheet(heap: Global, pairs: u32) -> Result<Vec<u8>, AllocError> {
+    let mut text = Vec::new(heap);
+    text.extend_from_slice(b"width 8\nrules 41\n")?;
+    for _ in 0..40u32 {
+        add_rule(&mut text, 32)?;
+    }
+    add_rule(&mut text, pairs)?;
+    text.extend_from_slice(b"targets 0\n")?;
+    Ok(text)
+}
+
+// A text of so many bytes, most of them spaces; at least 25.
+pub fn spaced(heap: Global, bytes: usize) -> Result<Vec<u8>, AllocError> {
+    let mut text = Vec::new(heap);
+    text.extend_from_slice(b"width 1\nrules 0\ntargets 0")?;
+    for _ in 25..bytes {
+        text.push(b' ')?;
+    }
+    Ok(text)
 }
 
 #[cfg(test)]
@@ -109,6 +152,24 @@ mod tests {
         check(refusal(text, 10, 2, 1) == (5, 7))?;
         check(refusal(text, 10, 2, 0) == (5, 5))?;
         check(refusal(text, 5000, 5000, 5000) == (0, 0))
+    }
+
+    #[test]
+    fn full(rt: LibcRuntime) -> Result<(), Fail> {
+        let fits = full_sheet(rt.alloc(), 29)?;
+        check(refusal(fits.as_slice(), 4096, 10, 10) == (0, 0))?;
+        check(refusal(fits.as_slice(), 5000, 10, 10) == (0, 0))?;
+        check(refusal(fits.as_slice(), 4095, 10, 10) == (5, 1598))?;
+        let over = full_sheet(rt.alloc(), 30)?;
+        check(refusal(over.as_slice(), 5000, 10, 10) == (5, 1599))
+    }
+
+    #[test]
+    fn long(rt: LibcRuntime) -> Result<(), Fail> {
+        let fits = spaced(rt.alloc(), 65_536)?;
+        check(refusal(fits.as_slice(), 10, 10, 10) == (0, 0))?;
+        let over = spaced(rt.alloc(), 65_537)?;
+        check(refusal(over.as_slice(), 10, 10, 10) == (5, 0))
     }
 
     #[test]
