@@ -1,3 +1,4 @@
 pub mod Pushed
 pub mod Tried
 pub mod Whole
+pub mod Single

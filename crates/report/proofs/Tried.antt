@@ -63,7 +63,7 @@ refuses b targets k {x} {y} {number} {at} e s w h = go (subst (λ (z : View). St
     go (targets-width there differ) = differ w
 
 module _ (b : BookMeaning) (book-fits : Well-formed-book b) (targets : BookMeaning) (targets-fit : Well-formed-book targets) (w : targets .width ≡ b .width) where
-  target-fits : (i : ℕ) (t : Rule) → nth (targets .rules) i ≡ Some t → Well-formed (b .width) t
+  pub target-fits : (i : ℕ) (t : Rule) → nth (targets .rules) i ≡ Some t → Well-formed (b .width) t
   target-fits i t e = subst (λ (n : ℕ). Well-formed n t) w (targets-fit .rules-fit t (nth-member (targets .rules) i t e))
 
   -- every target has an outcome that is due to it

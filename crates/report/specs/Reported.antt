@@ -12,6 +12,7 @@ use Rattle.text.specs.declared.words.Name.{Name}
 use Rattle.reader.specs.declared.fault.ReadFault.{ReadFault}
 use Rattle.reader.specs.Format.{Memo}
 use Rattle.reader.specs.Reads.{Lent, nameOf, noName, padded, Blank}
+use Rattle.spelling.specs.Draft.{Draft, Spells, putDown}
 use Rattle.pieces.specs.declared.output.Output.{Output}
 use Rattle.writing.specs.Outcomes.{Outcome}
 use Rattle.writing.specs.Reports.{parts}
@@ -83,3 +84,7 @@ Report-of (Err e) text l room r rs ts ns out = (r ≡ Err (Reading e)) × Blank 
 Report-of (Ok m) text l room r rs ts ns out =
     Places-after r l m room rs ts ns out
     × (Sound (rulesIn l m) (targetsIn l m) → Reported (sheetMeaning (rulesIn l m)) (sheetMeaning (targetsIn l m)) text (namesIn l m) room r out)
+
+-- a text that is read spells a book and targets, as they are written down, and it is these that are read
+abbrev pub Read-as-spelled : List ℕ → Result Memo ReadFault → Type 0
+Read-as-spelled text o = (m : Memo) → o ≡ Ok m → (d : Draft) × Spells text d × (m ≡ putDown d)

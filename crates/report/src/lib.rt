@@ -2,5 +2,6 @@
 pub mod fault;
 pub mod faults;
 mod judged;
+pub mod laws;
 pub mod report;
 mod targets;

@@ -7,7 +7,7 @@ ghost use Rattle.sheets.specs.Reads.{sheetMeaning};
 ghost use Rattle.reader.specs.Format.{readText};
 ghost use Rattle.reader.specs.Reads.{lent, roomsIn, noName};
 ghost use Rattle.pieces.specs.Put.{Same, size};
-ghost use Rattle.report.specs.Reported.{Sound, Report-fills, Reads-and-fills, kept, Report-of};
+ghost use Rattle.report.specs.Reported.{Sound, Report-fills, Reads-and-fills, kept, Read-as-spelled, Report-of};
 use crate::fault::ReportFault;
 use crate::faults::ReportFromBook;
 use crate::faults::ReportFromReader;
@@ -112,7 +112,8 @@ pub fn report(
     names: &mut [Name],
     output: &mut [u8],
 ) -> Result<usize, ReportFault>
-    ensures { λ r. ⌜ Report-of (readText (roomsIn (lent (now (rules .entry)) (now (targets .entry)) (now (names .entry)))) (now (text .entry)))
+    ensures spelled { λ _. ⌜ Read-as-spelled (now (text .entry)) (readText (roomsIn (lent (now (rules .entry)) (now (targets .entry)) (now (names .entry)))) (now (text .entry))) ⌝ }
+    ensures reports { λ r. ⌜ Report-of (readText (roomsIn (lent (now (rules .entry)) (now (targets .entry)) (now (names .entry)))) (now (text .entry)))
         (now (text .entry)) (lent (now (rules .entry)) (now (targets .entry)) (now (names .entry))) (length (now (output .entry))) r
         (now (rules .exit)) (now (targets .exit)) (now (names .exit)) (now (output .exit)) ⌝ }
 {
