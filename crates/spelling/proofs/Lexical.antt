@@ -73,13 +73,13 @@ is-number c n lo hi =
     let short : length (decimal n) ≤ 3 = length-decimal-le 3 n (omega arith) (omega arith) (omega arith) in
     and-from (leb (length (decimal n)) 24) (not (isDollar (decimal n))) (le-leb _ _ (omega arith)) (plain (decimal n) (counts-are-spelled (least c) (most c) n (decimal n) small .1 (refl, lo, hi)))
   where
-  no-number : {C : Type 0} → _≡_ {A = Option ℕ} None (Some n) → C
-  no-number q = let z : _≡_ {A = ℕ} 0 1 = cc in absurd (omega arith)
+    no-number : {C : Type 0} → _≡_ {A = Option ℕ} None (Some n) → C
+    no-number q = let z : _≡_ {A = ℕ} 0 1 = cc in absurd (omega arith)
 
-  plain : (w : List ℕ) → countOf (least c) (most c) w ≡ Some n → not (isDollar w) ≡ true
-  plain [] q = refl
-  plain (b ∷ d ∷ bs) q = refl
-  plain (b ∷ []) q = ⊎-elim (λ e. no-number (sym (ap (λ x. countOf (least c) (most c) (x ∷ [])) (eqb-true b 36 e)) ∙ q)) (λ e. ap not e) (cases-bool (eqb b 36))
+    plain : (w : List ℕ) → countOf (least c) (most c) w ≡ Some n → not (isDollar w) ≡ true
+    plain [] q = refl
+    plain (b ∷ d ∷ bs) q = refl
+    plain (b ∷ []) q = ⊎-elim (λ e. no-number (sym (ap (λ x. countOf (least c) (most c) (x ∷ [])) (eqb-true b 36 e)) ∙ q)) (λ e. ap not e) (cases-bool (eqb b 36))
 
 pub count-on : (c : Counting) (n : ℕ) (ws : List Word) → bytesOf ws ≡ keyword c ∷ decimal n ∷ [] → least c ≤ n → n ≤ most c → countLine c ws ≡ Ok n
 count-on c n [] e lo hi = let z : _≡_ {A = ℕ} 0 1 = cc in absurd (omega arith)

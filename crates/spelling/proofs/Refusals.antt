@@ -49,9 +49,9 @@ line-late n j e (d ∷ ds) m [] q = let s = same-line n j Lines e q in omega ari
 line-late n j e [] m (l ∷ ls) q = let s = same-line n j Lines e q in omega arith
 line-late n j e (d ∷ ds) m (l ∷ ls) q = on (readLine E m l d) (λ s. line-late (suc n) j e (s .next ++ ds) (s .memo) ls) q
   where
-  on : (o : Out Step) → ((s : Step) → readLines E (suc n) (s .next ++ ds) (s .memo) ls ≡ Refused j e → suc n ≤ j) → follow n o (λ s. readLines E (suc n) (s .next ++ ds) (s .memo) ls) ≡ Refused j e → n ≤ j
-  on (Err x) again q = let s = same-line n j x e q in omega arith
-  on (Ok s) again q = let h = again s q in omega arith
+    on : (o : Out Step) → ((s : Step) → readLines E (suc n) (s .next ++ ds) (s .memo) ls ≡ Refused j e → suc n ≤ j) → follow n o (λ s. readLines E (suc n) (s .next ++ ds) (s .memo) ls) ≡ Refused j e → n ≤ j
+    on (Err x) again q = let s = same-line n j x e q in omega arith
+    on (Ok s) again q = let h = again s q in omega arith
 
 -- a refusal depends on the lines up to its own
 pub cut : (n k : ℕ) (e : Cause) (ds : List Due) (m : Memo) (ls other : List Line) → (e ≡ Lines → ⊥) → readLines E n ds m ls ≡ Refused (n + k) e → take (suc k) other ≡ take (suc k) ls → readLines E n ds m other ≡ Refused (n + k) e
@@ -64,12 +64,12 @@ cut n k e (d ∷ ds) m (l ∷ ls) (x ∷ other) ne q same =
     let rest : take k other ≡ take k ls = cc in
     ap (λ z. readLines E n (d ∷ ds) m (z ∷ other)) first ∙ on (readLine E m l d) k (λ s i. cut (suc n) i e (s .next ++ ds) (s .memo) ls other ne) q rest
   where
-  on : (o : Out Step) (k : ℕ) → ((s : Step) (i : ℕ) → readLines E (suc n) (s .next ++ ds) (s .memo) ls ≡ Refused (suc n + i) e → take (suc i) other ≡ take (suc i) ls → readLines E (suc n) (s .next ++ ds) (s .memo) other ≡ Refused (suc n + i) e) → follow n o (λ s. readLines E (suc n) (s .next ++ ds) (s .memo) ls) ≡ Refused (n + k) e → take k other ≡ take k ls → follow n o (λ s. readLines E (suc n) (s .next ++ ds) (s .memo) other) ≡ Refused (n + k) e
-  on (Err x) k again q rest = q
-  on (Ok s) zero again q rest = let h = line-late (suc n) (n + 0) e (s .next ++ ds) (s .memo) ls q in absurd (omega arith)
-  on (Ok s) (suc k) again q rest =
-      let at : n + suc k ≡ suc n + k = omega arith in
-      again s k (q ∙ ap (λ i. Refused i e) at) rest ∙ ap (λ i. Refused i e) (sym at)
+    on : (o : Out Step) (k : ℕ) → ((s : Step) (i : ℕ) → readLines E (suc n) (s .next ++ ds) (s .memo) ls ≡ Refused (suc n + i) e → take (suc i) other ≡ take (suc i) ls → readLines E (suc n) (s .next ++ ds) (s .memo) other ≡ Refused (suc n + i) e) → follow n o (λ s. readLines E (suc n) (s .next ++ ds) (s .memo) ls) ≡ Refused (n + k) e → take k other ≡ take k ls → follow n o (λ s. readLines E (suc n) (s .next ++ ds) (s .memo) other) ≡ Refused (n + k) e
+    on (Err x) k again q rest = q
+    on (Ok s) zero again q rest = let h = line-late (suc n) (n + 0) e (s .next ++ ds) (s .memo) ls q in absurd (omega arith)
+    on (Ok s) (suc k) again q rest =
+        let at : n + suc k ≡ suc n + k = omega arith in
+        again s k (q ∙ ap (λ i. Refused i e) at) rest ∙ ap (λ i. Refused i e) (sym at)
 
 -- a line itself is never refused for its number
 
@@ -134,12 +134,12 @@ missing n j [] m (l ∷ ls) q =
     inr (m, ap (λ i. readLines E n [] m (take i (l ∷ ls))) none)
 missing n j (d ∷ ds) m (l ∷ ls) q = on (readLine E m l d) refl (fair-line m l d) (λ s. missing (suc n) j (s .next ++ ds) (s .memo) ls) q
   where
-  on : (o : Out Step) → readLine E m l d ≡ o → Fair o → ((s : Step) → readLines E (suc n) (s .next ++ ds) (s .memo) ls ≡ Refused j Lines → (j ≡ suc n + length ls) ⊎ ((y : Memo) × (readLines E (suc n) (s .next ++ ds) (s .memo) (take (j - suc n) ls) ≡ Ok y))) → follow n o (λ s. readLines E (suc n) (s .next ++ ds) (s .memo) ls) ≡ Refused j Lines → (j ≡ n + length (l ∷ ls)) ⊎ ((y : Memo) × (readLines E n (d ∷ ds) m (take (j - n) (l ∷ ls)) ≡ Ok y))
-  on (Err x) e fair again q = absurd (fair (same-cause n j x Lines q))
-  on (Ok s) e fair again q =
-      let late = line-late (suc n) j Lines (s .next ++ ds) (s .memo) ls q in
-      let more : j - n ≡ suc (j - suc n) = omega arith in
-      ⊎-elim
-      (λ h. inl (omega arith))
-      (λ h. inr (h .0, ap (λ i. readLines E n (d ∷ ds) m (take i (l ∷ ls))) more ∙ ap (λ z. follow n z (λ s′. readLines E (suc n) (s′ .next ++ ds) (s′ .memo) (take (j - suc n) ls))) e ∙ h .1))
-      (again s q)
+    on : (o : Out Step) → readLine E m l d ≡ o → Fair o → ((s : Step) → readLines E (suc n) (s .next ++ ds) (s .memo) ls ≡ Refused j Lines → (j ≡ suc n + length ls) ⊎ ((y : Memo) × (readLines E (suc n) (s .next ++ ds) (s .memo) (take (j - suc n) ls) ≡ Ok y))) → follow n o (λ s. readLines E (suc n) (s .next ++ ds) (s .memo) ls) ≡ Refused j Lines → (j ≡ n + length (l ∷ ls)) ⊎ ((y : Memo) × (readLines E n (d ∷ ds) m (take (j - n) (l ∷ ls)) ≡ Ok y))
+    on (Err x) e fair again q = absurd (fair (same-cause n j x Lines q))
+    on (Ok s) e fair again q =
+        let late = line-late (suc n) j Lines (s .next ++ ds) (s .memo) ls q in
+        let more : j - n ≡ suc (j - suc n) = omega arith in
+        ⊎-elim
+        (λ h. inl (omega arith))
+        (λ h. inr (h .0, ap (λ i. readLines E n (d ∷ ds) m (take i (l ∷ ls))) more ∙ ap (λ z. follow n z (λ s′. readLines E (suc n) (s′ .next ++ ds) (s′ .memo) (take (j - suc n) ls))) e ∙ h .1))
+        (again s q)

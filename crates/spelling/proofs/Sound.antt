@@ -65,11 +65,13 @@ list-back c e h ds m wss y q =
     let n = a .0 in
     let b = entries-back n e ds (putNumber m n c) (a .1) y (subst (λ due. through (due ++ ds) (putNumber m n c) (a .1) ≡ Ok y) (h n) (a .5)) in
     let xs = b .0 in
-    let len : n ≡ length xs = sym (b .2) in
-    (xs, b .1,
+    let len : n ≡ length xs = sym (b .2) in (
+      xs,
+      b .1,
       record { line = a .2 .line; begins = a .2 .begins ∙ ap (λ z. a .2 .line ∷ z) (b .3); says = a .2 .says ∙ ap (λ k. keyword c ∷ decimal k ∷ []) len },
       record { low = subst (λ k. least c ≤ k) len (a .3); high = subst (λ k. k ≤ most c) len (a .4); lines = subst (λ k. LinesOk e (putNumber m k c) xs) len (b .4) },
-      subst (λ k. through ds (putsAll (putNumber m k c) xs) (b .1) ≡ Ok y) len (b .5))
+      subst (λ k. through ds (putsAll (putNumber m k c) xs) (b .1) ≡ Ok y) len (b .5),
+    )
 
 abbrev Back : List Due → Memo → List (List Word) → Memo → Type 0
 Back ds m wss y = (r : RuleDraft) × (rest : List (List Word)) × RuleWritten r wss rest × RuleOk m r × (through ds (putRule m r) rest ≡ Ok y)
@@ -81,20 +83,24 @@ kind-rule Functional ds m wss from y w q =
     let m1 = putList counting.Rows m0 (a .0) in
     let b = list-back counting.Left entries.Variable (λ n. refl) (count counting.Right ∷ ds) m1 (a .1) y (a .4) in
     let m2 = putList counting.Left m1 (b .0) in
-    let c = list-back counting.Right entries.Variable (λ n. refl) ds m2 (b .1) y (b .4) in
-    (record { kind = Functional; rows = a .0; left = b .0; pairs = c .0 }, c .1,
+    let c = list-back counting.Right entries.Variable (λ n. refl) ds m2 (b .1) y (b .4) in (
+      record { kind = Functional; rows = a .0; left = b .0; pairs = c .0 },
+      c .1,
       record { rows-from = from; lists-from = a .1; kind = w; rows = a .2; lists = (b .1, b .2, c .2) },
       record { rows = a .3; lists = (b .3, c .3) },
-      c .4)
+      c .4,
+    )
 kind-rule Equality ds m wss from y w q =
     let m0 = extend m (2 ∷ []) in
     let a = list-back counting.Rows entries.Row (λ n. refl) (count counting.Pairs ∷ ds) m0 from y q in
     let m1 = putList counting.Rows m0 (a .0) in
-    let c = list-back counting.Pairs entries.Pair (λ n. refl) ds m1 (a .1) y (a .4) in
-    (record { kind = Equality; rows = a .0; left = []; pairs = c .0 }, c .1,
+    let c = list-back counting.Pairs entries.Pair (λ n. refl) ds m1 (a .1) y (a .4) in (
+      record { kind = Equality; rows = a .0; left = []; pairs = c .0 },
+      c .1,
       record { rows-from = from; lists-from = a .1; kind = w; rows = a .2; lists = (refl, c .2) },
       record { rows = a .3; lists = c .3 },
-      c .4)
+      c .4,
+    )
 
 rule-back : (ds : List Due) (m : Memo) (wss : List (List Word)) (y : Memo) → through (kind ∷ ds) m wss ≡ Ok y → Back ds m wss y
 rule-back ds m [] y q = no-ok Lines y q
@@ -128,8 +134,8 @@ draft-back wss y q =
     let tn : k .0 ≡ length (t .0) = sym (t .2) in
     let e = nothing-left (putRules (putNumber m1 (k .0) counting.Targets) (t .0)) (t .1) y (t .5) in
     let P : ℕ → Memo = λ i. putNumber m0 i counting.Rules in
-    let T : ℕ → ℕ → Memo = λ i j. putNumber (putRules (P i) (r .0)) j counting.Targets in
-    (record { width = w .0; rules = r .0; targets = t .0 },
+    let T : ℕ → ℕ → Memo = λ i j. putNumber (putRules (P i) (r .0)) j counting.Targets in (
+      record { width = w .0; rules = r .0; targets = t .0 },
       record {
         rules-from = w .1;
         first-from = n .1;
@@ -149,4 +155,5 @@ draft-back wss y q =
         few-targets = subst (λ j. j ≤ 256) tn (k .4);
         targets = subst (λ j. RulesOk (T (length (r .0)) j) (t .0)) tn (subst (λ i. RulesOk (T i (k .0)) (t .0)) rn (t .4));
       },
-      sym (e .1) ∙ (λ i. putRules (T (rn i) (tn i)) (t .0)))
+      sym (e .1) ∙ (λ i. putRules (T (rn i) (tn i)) (t .0)),
+    )

@@ -65,9 +65,9 @@ spells-one text d e h k =
 lines-refused : (rooms : Rooms) (text : List ℕ) (e : Cause) (n : ℕ) → readText rooms text ≡ Refused n e → (e ≡ Room → ⊥) → readLines E 1 wholeText nothing (linesAt 0 text) ≡ Refused n e
 lines-refused rooms text e n q ne = ⊎-elim (λ s. sym s ∙ short (leb (length text) 65536) q) (λ r. absurd (ne (sym (same-cause (r .0) n Room e (sym (r .1) ∙ short (leb (length text) 65536) q))))) (lines-below rooms 1 wholeText nothing (linesAt 0 text))
   where
-  short : (t : Bool) → cond t (readLines rooms 1 wholeText nothing (linesAt 0 text)) (Refused 0 Room) ≡ Refused n e → readLines rooms 1 wholeText nothing (linesAt 0 text) ≡ Refused n e
-  short true h = h
-  short false h = absurd (ne (sym (same-cause 0 n Room e h)))
+    short : (t : Bool) → cond t (readLines rooms 1 wholeText nothing (linesAt 0 text)) (Refused 0 Room) ≡ Refused n e → readLines rooms 1 wholeText nothing (linesAt 0 text) ≡ Refused n e
+    short true h = h
+    short false h = absurd (ne (sym (same-cause 0 n Room e h)))
 
 pub refused-spells-nothing : Refused-spells-nothing
 refused-spells-nothing rooms text other e n q no-room no-lines same d h =
