@@ -39,7 +39,13 @@ fn line(text: &[u8], number: usize) -> &[u8] {
         left -= 1;
     }
     let end = line_end(text, from);
-    part_of(text, Name { place: from, length: end.saturating_sub(from) })
+    part_of(
+        text,
+        Name {
+            place: from,
+            length: end.saturating_sub(from),
+        },
+    )
 }
 
 fn refuse(rt: &LibcRuntime, text: &[u8], fault: ReadFault) -> io::Result<()> {
@@ -52,7 +58,11 @@ fn refuse(rt: &LibcRuntime, text: &[u8], fault: ReadFault) -> io::Result<()> {
 
 // The word at a place, or 0 past the end.
 fn word(words: &[u32], at: usize) -> usize {
-    if at < words.len() { words[at] as usize } else { 0 }
+    if at < words.len() {
+        words[at] as usize
+    } else {
+        0
+    }
 }
 
 // Writes each rule of a sheet with the line that it begins on, and gives the line after the last.
@@ -63,24 +73,41 @@ fn list(rt: &LibcRuntime, words: &[u32], what: &str, first: usize) -> io::Result
     for i in 0..word(words, 1) {
         println!(rt, "{what} {} line {begins}", i.saturating_add(1))?;
         let rows = word(words, at.saturating_add(1));
-        let left_at = at.saturating_add(2).saturating_add(rows.saturating_mul(width));
+        let left_at = at.saturating_add(2)
+            .saturating_add(rows.saturating_mul(width));
         let left = word(words, left_at);
         let pairs_at = left_at.saturating_add(1).saturating_add(left);
         let pairs = word(words, pairs_at);
         let functional = word(words, at) == 1;
         let size = if functional { 1 } else { 2 };
         let lines: usize = if functional { 4 } else { 3 };
-        begins = begins.saturating_add(lines).saturating_add(rows).saturating_add(left).saturating_add(pairs);
-        at = pairs_at.saturating_add(1).saturating_add(pairs.saturating_mul(size));
+        begins = begins
+            .saturating_add(lines)
+            .saturating_add(rows)
+            .saturating_add(left)
+            .saturating_add(pairs);
+        at = pairs_at
+            .saturating_add(1)
+            .saturating_add(pairs.saturating_mul(size));
     }
     Ok(begins)
 }
 
-fn tell(rt: &LibcRuntime, text: &[u8], rules: &[u32], targets: &[u32], names: &[Name]) -> io::Result<()> {
+fn tell(
+    rt: &LibcRuntime,
+    text: &[u8],
+    rules: &[u32],
+    targets: &[u32],
+    names: &[Name],
+) -> io::Result<()> {
     let width = word(rules, 0);
     let many = word(rules, 1);
     let aims = word(targets, 1);
-    println!(rt, "width {width}, {many} rules, {aims} targets, {} constants", names.len())?;
+    println!(
+        rt,
+        "width {width}, {many} rules, {aims} targets, {} constants",
+        names.len()
+    )?;
     for (i, name) in names.iter().enumerate() {
         print!(rt, "constant {i} ")?;
         show(rt, part_of(text, *name))?;
@@ -95,7 +122,10 @@ fn main(rt: LibcRuntime) -> io::Result<()> {
     rt.stdin().read_to_end(&mut text)?;
     let mut rules = [0u32; 4096];
     let mut targets = [0u32; 4096];
-    let mut names = [Name { place: 0, length: 0 }; 4096];
+    let mut names = [Name {
+        place: 0,
+        length: 0,
+    }; 4096];
     let bytes = text.as_slice();
     match read(bytes, &mut rules, &mut targets, &mut names) {
         Ok(sizes) => {

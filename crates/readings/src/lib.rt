@@ -23,11 +23,19 @@ pub fn number(cause: Cause) -> u8 {
 pub fn refusal(text: &[u8], rules: usize, targets: usize, names: usize) -> (u8, usize) {
     let mut first = [7u32; 5000];
     let mut second = [7u32; 5000];
-    let mut third = [Name { place: 9, length: 9 }; 5000];
+    let mut third = [Name {
+        place: 9,
+        length: 9,
+    }; 5000];
     if rules > 5000 || targets > 5000 || names > 5000 {
         return (9, 9);
     }
-    match read(text, &mut first[0..rules], &mut second[0..targets], &mut third[0..names]) {
+    match read(
+        text,
+        &mut first[0..rules],
+        &mut second[0..targets],
+        &mut third[0..names],
+    ) {
         Ok(_) => (0, 0),
         Err(fault) => (number(fault.cause), fault.line),
     }
@@ -127,16 +135,48 @@ mod tests {
 
     #[test]
     fn rules() -> Result<(), Fail> {
-        check(accepted(b"width 3\nrules 1\nfunctional\nrows 1\n$b press $w\nleft 1\n$b\nright 1\n$w\ntargets 1\nfunctional\nrows 2\n$b press $w\n$b dock $v\nleft 1\n$b\nright 1\n$v\n"))?;
-        check(accepted(b"width 2\nrules 1\nequality\nrows 1\n$a $b\npairs 2\n$a $b\nx y\ntargets 0\n"))?;
-        check(refused(b"width 1\nrules 1\nequality\nrows 1\n$a\npairs 1\n$b $a\n", 4, 7))?;
-        check(refused(b"width 1\nrules 1\nequality\nrows 1\n$a\npairs 1\n$b\n", 2, 7))?;
-        check(refused(b"width 1\nrules 1\nfunctional\nrows 1\n$a\nleft 1\nb\n", 2, 7))?;
-        check(refused(b"width 1\nrules 1\nfunctional\nrows 1\n$a\nleft 1\n$b\n", 4, 7))?;
+        check(accepted(
+            b"width 3\nrules 1\nfunctional\nrows 1\n$b press $w\nleft 1\n$b\nright 1\n$w\ntargets 1\nfunctional\nrows 2\n$b press $w\n$b dock $v\nleft 1\n$b\nright 1\n$v\n",
+        ))?;
+        check(accepted(
+            b"width 2\nrules 1\nequality\nrows 1\n$a $b\npairs 2\n$a $b\nx y\ntargets 0\n",
+        ))?;
+        check(refused(
+            b"width 1\nrules 1\nequality\nrows 1\n$a\npairs 1\n$b $a\n",
+            4,
+            7,
+        ))?;
+        check(refused(
+            b"width 1\nrules 1\nequality\nrows 1\n$a\npairs 1\n$b\n",
+            2,
+            7,
+        ))?;
+        check(refused(
+            b"width 1\nrules 1\nfunctional\nrows 1\n$a\nleft 1\nb\n",
+            2,
+            7,
+        ))?;
+        check(refused(
+            b"width 1\nrules 1\nfunctional\nrows 1\n$a\nleft 1\n$b\n",
+            4,
+            7,
+        ))?;
         check(refused(b"width 1\nrules 1\nfunctional\nrows 1\n$\n", 2, 5))?;
-        check(refused(b"width 1\nrules 1\nfunctional\nrows 1\n$$\nleft 1\n$$\nright 0\n", 6, 9))?;
-        check(refused(b"width 1\nrules 1\nfunctional\nrows 1\nabcdefghijklmnopqrstuvwxy\n", 2, 5))?;
-        check(refused(b"width 1\nrules 1\nfunctional\nrows 1\nabcdefghijklmnopqrstuvwx\n", 6, 6))?;
+        check(refused(
+            b"width 1\nrules 1\nfunctional\nrows 1\n$$\nleft 1\n$$\nright 0\n",
+            6,
+            9,
+        ))?;
+        check(refused(
+            b"width 1\nrules 1\nfunctional\nrows 1\nabcdefghijklmnopqrstuvwxy\n",
+            2,
+            5,
+        ))?;
+        check(refused(
+            b"width 1\nrules 1\nfunctional\nrows 1\nabcdefghijklmnopqrstuvwx\n",
+            6,
+            6,
+        ))?;
         check(refused(b"width 1\nrules 1\nboth\n", 2, 3))?;
         check(refused(b"width 1\nrules 1\nfunctional\nrows 1\na b\n", 2, 5))
     }
@@ -176,7 +216,10 @@ mod tests {
     fn words() -> Result<(), Fail> {
         let mut rules = [7u32; 12];
         let mut targets = [7u32; 4];
-        let mut names = [Name { place: 9, length: 9 }; 3];
+        let mut names = [Name {
+            place: 9,
+            length: 9,
+        }; 3];
         let text = b"width 2\nrules 1\nequality\nrows 1\n$a b\npairs 1\n$a c\ntargets 0\n";
         match read(text, &mut rules, &mut targets, &mut names) {
             Ok(s) => {

@@ -85,33 +85,34 @@ put-facts m w =
     let mv = withVars m (add (m .vars) w) in
     let mn = withNames m (add (m .names) w) in
     elim (isVariable (w .bytes)) as (λ t. Facts m (cond t (extend mv xs) (extend mn ys)) (cond t (Variable (numberOf (m .vars) w)) (Constant (numberOf (m .names) w)))) [
-      true ↦
-        let a = ap length (ext-names mv xs (m .part)) in
-        let b = ap length (ext-vars mv xs (m .part)) in
-        let more = add-more (m .vars) w in
-        let one = add-one (m .vars) w in
-        let below = number-below (m .vars) w in
-        record {
-          names = omega arith;
-          vars = omega arith;
-          one = omega arith;
-          width = ext-width mv xs (m .part);
-          small = λ N h i j. omega arith;
-          new = λ v lo hi. ap Variable (sym (add-next (m .vars) w v lo (omega arith)));
-        }
-    | false ↦
-        let a = ap length (ext-names mn ys (m .part)) in
-        let b = ap length (ext-vars mn ys (m .part)) in
-        let more = add-more (m .names) w in
-        let below = number-below (m .names) w in
-        record {
-          names = omega arith;
-          vars = omega arith;
-          one = omega arith;
-          width = ext-width mn ys (m .part);
-          small = λ N h i j. omega arith;
-          new = λ v lo hi. absurd (omega arith);
-        } ]
+      | true ↦
+          let a = ap length (ext-names mv xs (m .part)) in
+          let b = ap length (ext-vars mv xs (m .part)) in
+          let more = add-more (m .vars) w in
+          let one = add-one (m .vars) w in
+          let below = number-below (m .vars) w in
+          record {
+            names = omega arith;
+            vars = omega arith;
+            one = omega arith;
+            width = ext-width mv xs (m .part);
+            small = λ N h i j. omega arith;
+            new = λ v lo hi. ap Variable (sym (add-next (m .vars) w v lo (omega arith)));
+          }
+      | false ↦
+          let a = ap length (ext-names mn ys (m .part)) in
+          let b = ap length (ext-vars mn ys (m .part)) in
+          let more = add-more (m .names) w in
+          let below = number-below (m .names) w in
+          record {
+            names = omega arith;
+            vars = omega arith;
+            one = omega arith;
+            width = ext-width mn ys (m .part);
+            small = λ N h i j. omega arith;
+            new = λ v lo hi. absurd (omega arith);
+          }
+    ]
 
 -- by the words of a line
 pub record RowFacts (m n : Memo) (many : ℕ) (ts : List Term) : Type 0 where
@@ -179,9 +180,9 @@ known-vars m w h =
     let mn = withNames m (add (m .names) w) in
     by (extend mv xs) (extend mn ys) (isVariable (w .bytes)) h (λ s. ext-vars mv xs (m .part) ∙ added-old (m .vars) w s) (ext-vars mn ys (m .part))
   where
-  by : (A B : Memo) (t : Bool) → (not t || seenIn (m .vars) w) ≡ true → (seenIn (m .vars) w ≡ true → A .vars ≡ m .vars) → B .vars ≡ m .vars → cond t A B .vars ≡ m .vars
-  by A B true h a b = a h
-  by A B false h a b = b
+    by : (A B : Memo) (t : Bool) → (not t || seenIn (m .vars) w) ≡ true → (seenIn (m .vars) w ≡ true → A .vars ≡ m .vars) → B .vars ≡ m .vars → cond t A B .vars ≡ m .vars
+    by A B true h a b = a h
+    by A B false h a b = b
 
 pub line-vars : (m : Memo) (ws : List Word) → allKnown (m .vars) ws ≡ true → puts m ws .vars ≡ m .vars
 line-vars m [] h = refl

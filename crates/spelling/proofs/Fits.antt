@@ -69,16 +69,16 @@ Okay L (Variable v) = v < L
 term-okay : (m : Memo) (w : Word) (N : ℕ) → (not (isVariable (w .bytes)) || seenIn (m .vars) w) ≡ true → N < base → length (put m w .names) ≤ N → Okay (length (m .vars)) (termIn m w)
 term-okay m w N h small le = by (isVariable (w .bytes)) refl h
   where
-  by : (t : Bool) → isVariable (w .bytes) ≡ t → (not t || seenIn (m .vars) w) ≡ true → Okay (length (m .vars)) (cond t (Variable (numberOf (m .vars) w)) (Constant (numberOf (m .names) w)))
-  by true e h = ltb-true (numberOf (m .vars) w) (length (m .vars)) h
-  by false e h =
-      let xs = (base + numberOf (m .vars) w) ∷ [] in
-      let ys = numberOf (m .names) w ∷ [] in
-      let mv = withVars m (add (m .vars) w) in
-      let mn = withNames m (add (m .names) w) in
-      let n = ap length (ap (λ t. cond t (extend mv xs) (extend mn ys) .names) e ∙ ext-names mn ys (m .part)) in
-      let b = number-below (m .names) w in
-      omega arith
+    by : (t : Bool) → isVariable (w .bytes) ≡ t → (not t || seenIn (m .vars) w) ≡ true → Okay (length (m .vars)) (cond t (Variable (numberOf (m .vars) w)) (Constant (numberOf (m .names) w)))
+    by true e h = ltb-true (numberOf (m .vars) w) (length (m .vars)) h
+    by false e h =
+        let xs = (base + numberOf (m .vars) w) ∷ [] in
+        let ys = numberOf (m .names) w ∷ [] in
+        let mv = withVars m (add (m .vars) w) in
+        let mn = withNames m (add (m .names) w) in
+        let n = ap length (ap (λ t. cond t (extend mv xs) (extend mn ys) .names) e ∙ ext-names mn ys (m .part)) in
+        let b = number-below (m .names) w in
+        omega arith
 
 terms-okay : (m : Memo) (ws : List Word) (N : ℕ) → allKnown (m .vars) ws ≡ true → N < base → length (puts m ws .names) ≤ N → All (Okay (length (m .vars))) (rowTerms m ws)
 terms-okay m [] N h small le = tt
@@ -280,6 +280,7 @@ fitting d ok small =
     let nr = many-rules mr (d .rules) in
     let nt = many-rules mt (d .targets) in
     let fr = ok .few-rules in
-    let ft = ok .few-targets in
-    (fitting-from (d .width) (rulesOf mr (d .rules)) (ok .some-width) (ok .small-width) (omega arith) (a .fits N small (omega arith)),
-      fitting-from (d .width) (rulesOf mt (d .targets)) (ok .some-width) (ok .small-width) (omega arith) (subst (λ W. All (Well-formed W) (rulesOf mt (d .targets))) wt (b .fits N small (omega arith))))
+    let ft = ok .few-targets in (
+      fitting-from (d .width) (rulesOf mr (d .rules)) (ok .some-width) (ok .small-width) (omega arith) (a .fits N small (omega arith)),
+      fitting-from (d .width) (rulesOf mt (d .targets)) (ok .some-width) (ok .small-width) (omega arith) (subst (λ W. All (Well-formed W) (rulesOf mt (d .targets))) wt (b .fits N small (omega arith))),
+    )

@@ -51,21 +51,21 @@ extended p m xs e = record {
   rests = ap (λ q. pick p (extendIn m xs q .targets) (extendIn m xs q .rules)) e ∙ less p;
 }
   where
-  part : (q : Part) → extendIn m xs q .part ≡ m .part
-  part parts.Rules = refl
-  part parts.Targets = refl
+    part : (q : Part) → extendIn m xs q .part ≡ m .part
+    part parts.Rules = refl
+    part parts.Targets = refl
 
-  wide : (q : Part) → extendIn m xs q .width ≡ m .width
-  wide parts.Rules = refl
-  wide parts.Targets = refl
+    wide : (q : Part) → extendIn m xs q .width ≡ m .width
+    wide parts.Rules = refl
+    wide parts.Targets = refl
 
-  more : (q : Part) → pick q (extendIn m xs q .rules) (extendIn m xs q .targets) ≡ pick q (m .rules) (m .targets) ++ xs
-  more parts.Rules = refl
-  more parts.Targets = refl
+    more : (q : Part) → pick q (extendIn m xs q .rules) (extendIn m xs q .targets) ≡ pick q (m .rules) (m .targets) ++ xs
+    more parts.Rules = refl
+    more parts.Targets = refl
 
-  less : (q : Part) → pick q (extendIn m xs q .targets) (extendIn m xs q .rules) ≡ pick q (m .targets) (m .rules)
-  less parts.Rules = refl
-  less parts.Targets = refl
+    less : (q : Part) → pick q (extendIn m xs q .targets) (extendIn m xs q .rules) ≡ pick q (m .targets) (m .rules)
+    less parts.Rules = refl
+    less parts.Targets = refl
 
 module _ (p : Part) where
   put-grown : (m : Memo) (w : Word) → m .part ≡ p → Grown p m (put m w) (wordOf (termIn m w) ∷ [])
@@ -73,8 +73,9 @@ module _ (p : Part) where
       let v = extended p (withVars m (add (m .vars) w)) ((base + numberOf (m .vars) w) ∷ []) e in
       let c = extended p (withNames m (add (m .names) w)) (numberOf (m .names) w ∷ []) e in
       elim (isVariable (w .bytes)) as (λ t. Grown p m (cond t (extend (withVars m (add (m .vars) w)) ((base + numberOf (m .vars) w) ∷ [])) (extend (withNames m (add (m .names) w)) (numberOf (m .names) w ∷ []))) (wordOf (cond t (Variable (numberOf (m .vars) w)) (Constant (numberOf (m .names) w))) ∷ [])) [
-        true ↦ record { stays = v .stays; width = v .width; grows = v .grows; rests = v .rests }
-      | false ↦ record { stays = c .stays; width = c .width; grows = c .grows; rests = c .rests } ]
+        | true ↦ record { stays = v .stays; width = v .width; grows = v .grows; rests = v .rests }
+        | false ↦ record { stays = c .stays; width = c .width; grows = c .grows; rests = c .rests }
+      ]
 
   same : (m : Memo) → m .part ≡ p → Grown p m m []
   same m e = record { stays = e; width = refl; grows = sym (append-nil (pick p (m .rules) (m .targets))); rests = refl }
@@ -112,9 +113,9 @@ variables-laid m (ws ∷ xs) h =
     let n = a .1 in
     ((λ i. first i ++ more i) ∙ sym (joined-append ns (numbersOf (puts m ws) xs)), length-append ns (numbersOf (puts m ws) xs) ∙ (let k = b .1 in omega arith))
   where
-  joined-append : (xs ys : List ℕ) → joined leftWords (xs ++ ys) ≡ joined leftWords xs ++ joined leftWords ys
-  joined-append [] ys = refl
-  joined-append (x ∷ xs) ys = ap (λ z. (base + x) ∷ z) (joined-append xs ys)
+    joined-append : (xs ys : List ℕ) → joined leftWords (xs ++ ys) ≡ joined leftWords xs ++ joined leftWords ys
+    joined-append [] ys = refl
+    joined-append (x ∷ xs) ys = ap (λ z. (base + x) ∷ z) (joined-append xs ys)
 
 twice-laid : (vs : List ℕ) → joined leftWords vs ≡ joined (pairWords Functional) (map twice vs)
 twice-laid [] = refl
@@ -214,6 +215,7 @@ laid d ok =
     let wide : r .width ≡ d .width = ab .width in
     let none : r .targets ≡ [] = ab .rests in
     let n = sym (many-rules (rulesMemo d) (d .rules)) in
-    let k = sym (many-rules (targetsMemo d) (d .targets)) in
-    (cef .rests ∙ ab .grows ∙ (λ i. d .width ∷ (n i ∷ joined layoutRule (rulesOf (rulesMemo d) (d .rules)))),
-      cef .grows ∙ (λ i. none i ++ (wide i ∷ (k i ∷ joined layoutRule (rulesOf (targetsMemo d) (d .targets))))))
+    let k = sym (many-rules (targetsMemo d) (d .targets)) in (
+      cef .rests ∙ ab .grows ∙ (λ i. d .width ∷ (n i ∷ joined layoutRule (rulesOf (rulesMemo d) (d .rules)))),
+      cef .grows ∙ (λ i. none i ++ (wide i ∷ (k i ∷ joined layoutRule (rulesOf (targetsMemo d) (d .targets))))),
+    )

@@ -65,14 +65,15 @@ module _ (rooms : Rooms) (text : List ℕ) where
   telling back few n (Ok s) rs ts ns (m, q, h) =
       let d = read-spells rooms text m q in
       let opens : (book targets : BookMeaning) (names : List Word) → Spells-book text book targets names → Opens-as rs book × Opens-as ts targets = λ book targets names sp.
-          let e = sp .draft in
-          let same = ap (λ z. length (z .names)) (same-memo m q e (sp .spells)) in
-          let least = few m q in
-          let hold = subst (λ z. Holds text n z s rs ts ns) (same-memo m q e (sp .spells)) h in
-          let sheets = laid e (sp .spells .spelled .ok) in
-          let fit = fitting e (sp .spells .spelled .ok) (omega arith) in
-          (subst (Opens-as rs) (sym (sp .book-is)) (opened back (bookOf e) _ rs (fit .0) (hold .rules ∙ ap (λ z. z ++ replicate (n .rules - length (putDown e .rules)) 0) (sheets .0))),
-            subst (Opens-as ts) (sym (sp .targets-is)) (opened back (targetsOf e) _ ts (fit .1) (hold .targets ∙ ap (λ z. z ++ replicate (n .targets - length (putDown e .targets)) 0) (sheets .1)))) in
+      let e = sp .draft in
+      let same = ap (λ z. length (z .names)) (same-memo m q e (sp .spells)) in
+      let least = few m q in
+      let hold = subst (λ z. Holds text n z s rs ts ns) (same-memo m q e (sp .spells)) h in
+      let sheets = laid e (sp .spells .spelled .ok) in
+      let fit = fitting e (sp .spells .spelled .ok) (omega arith) in (
+        subst (Opens-as rs) (sym (sp .book-is)) (opened back (bookOf e) _ rs (fit .0) (hold .rules ∙ ap (λ z. z ++ replicate (n .rules - length (putDown e .rules)) 0) (sheets .0))),
+        subst (Opens-as ts) (sym (sp .targets-is)) (opened back (targetsOf e) _ ts (fit .1) (hold .targets ∙ ap (λ z. z ++ replicate (n .targets - length (putDown e .targets)) 0) (sheets .1))),
+      ) in
       let holds : (e : Draft) → Spells text e → Holds text n (putDown e) s rs ts ns = λ e sp. subst (λ z. Holds text n z s rs ts ns) (same-memo m q e sp) h in
       record {
         draft = d .0;

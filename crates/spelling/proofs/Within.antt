@@ -39,9 +39,9 @@ push-inside endless xs x ys q = tt
 seen-inside : (r : Limit) (seen : List Word) (w : Word) (ys : List Word) → Inside r (length seen) → seenWith r seen w ≡ Ok ys → Inside r (length ys)
 seen-inside r seen w ys h q = by (seenIn seen w) q
   where
-  by : (t : Bool) → cond t (Ok seen) (pushed r seen w) ≡ Ok ys → Inside r (length ys)
-  by true q = let e : seen ≡ ys = cc (q) in subst (λ z. Inside r (length z)) e h
-  by false q = push-inside r seen w ys q
+    by : (t : Bool) → cond t (Ok seen) (pushed r seen w) ≡ Ok ys → Inside r (length ys)
+    by true q = let e : seen ≡ ys = cc (q) in subst (λ z. Inside r (length z)) e h
+    by false q = push-inside r seen w ys q
 
 module _ (rooms : Rooms) where
   abbrev Good : Memo → Type 0
