@@ -53,7 +53,7 @@ module _ (targets : BookMeaning) (fits : Well-formed-book targets) (k : ℕ) (d 
   begins-few =
       let none : h .merges ≡ 0 = ap (λ (x : Held). x .merges) is in
       let P : Pattern → Type 0 = λ p. group-count p (shows-of h) ≤ 64 in
-      let least : group-count (doubled-rows (doubled .rule)) (shows-of h) ≤ 64 = omega (arith, alone-counts (shows-of h) (doubled-rows (doubled .rule)) apart, few-symbols targets (doubled-rows (doubled .rule)) fit) in
+      let least : group-count (doubled-rows (doubled .rule)) (shows-of h) ≤ 64 = omega (arith, alone-counts (shows-of h) (doubled-rows (doubled .rule)) apart, few-symbols (doubled-rows (doubled .rule)) (fit .near)) in
       let all : groups-of h ≤ 64 = subst P (sym rows-are) least in
       omega arith
 
