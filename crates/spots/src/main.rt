@@ -99,13 +99,32 @@ fn print_long(rt: &LibcRuntime) -> Result<(), AnyError> {
 // More rows than a table has room for.
 fn print_many(rt: &LibcRuntime) -> Result<(), AnyError> {
     let words = [2, 1, 1, 1, A, B, 1, A, 1, B];
-    let mut rows = [row(9, 9); 10];
-    for k in 0..10u8 {
-        rows[k as usize] = row(k as u32, 7);
-    }
-    print_search(rt, "ten rows kept", &words, 2, &rows)?;
-    rows[9] = row(4, 8);
-    print_search(rt, "ten rows", &words, 2, &rows)
+    let kept = [
+        row(0, 7),
+        row(1, 7),
+        row(2, 7),
+        row(3, 7),
+        row(4, 7),
+        row(5, 7),
+        row(6, 7),
+        row(7, 7),
+        row(8, 7),
+        row(9, 7),
+    ];
+    print_search(rt, "ten rows kept", &words, 2, &kept)?;
+    let broken = [
+        row(0, 7),
+        row(1, 7),
+        row(2, 7),
+        row(3, 7),
+        row(4, 7),
+        row(5, 7),
+        row(6, 7),
+        row(7, 7),
+        row(8, 7),
+        row(4, 8),
+    ];
+    print_search(rt, "ten rows", &words, 2, &broken)
 }
 
 // Of two rules the second is broken.
