@@ -2,3 +2,4 @@ pub mod Pushed
 pub mod Tried
 pub mod Whole
 pub mod Single
+mod Sounds

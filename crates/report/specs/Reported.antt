@@ -12,7 +12,9 @@ use Rattle.text.specs.declared.words.Name.{Name}
 use Rattle.reader.specs.declared.fault.ReadFault.{ReadFault}
 use Rattle.reader.specs.Format.{Memo}
 use Rattle.reader.specs.Reads.{Lent, nameOf, noName, padded, Blank}
+use Rattle.text.specs.Words.{Word}
 use Rattle.spelling.specs.Draft.{Draft, Spells, putDown}
+use Rattle.spelling.specs.Book.{Spells-book}
 use Rattle.pieces.specs.declared.output.Output.{Output}
 use Rattle.writing.specs.Outcomes.{Outcome}
 use Rattle.writing.specs.Reports.{parts}
@@ -88,3 +90,17 @@ Report-of (Ok m) text l room r rs ts ns out =
 -- a text that is read spells a book and targets, as they are written down, and it is these that are read
 abbrev pub Read-as-spelled : List ℕ → Result Memo ReadFault → Type 0
 Read-as-spelled text o = (m : Memo) → o ≡ Ok m → (d : Draft) × Spells text d × (m ≡ putDown d)
+
+-- The text spells a book and targets, with these names of its constants; each target has an outcome that is due to it, and
+-- these outcomes are written.
+pub record As-spelled (text : List ℕ) (names : List Name) (room : ℕ) (r : Result ℕ ReportFault) (out : List ℕ) : Type 0 where
+  pub book : BookMeaning
+  pub targets : BookMeaning
+  pub known : List Word
+  pub spelled : Spells-book text book targets known
+  pub reported : Reported book targets text names room r out
+
+-- by what the reader answers: its refusal and no other, or the report on what the text spells
+abbrev pub Told-of : Result Memo ReadFault → List ℕ → Lent → ℕ → Result ℕ ReportFault → List ℕ → Type 0
+Told-of (Err e) text l room r out = r ≡ Err (Reading e)
+Told-of (Ok m) text l room r out = As-spelled text (namesIn l m) room r out

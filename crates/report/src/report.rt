@@ -7,13 +7,14 @@ ghost use Rattle.sheets.specs.Reads.{sheetMeaning};
 ghost use Rattle.reader.specs.Format.{readText};
 ghost use Rattle.reader.specs.Reads.{lent, roomsIn, noName};
 ghost use Rattle.pieces.specs.Put.{Same, size};
-ghost use Rattle.report.specs.Reported.{Sound, Report-fills, Reads-and-fills, kept, Read-as-spelled, Report-of};
+ghost use Rattle.report.specs.Reported.{Sound, Report-fills, Reads-and-fills, kept, Read-as-spelled, Report-of, Told-of};
 use crate::fault::ReportFault;
 use crate::faults::ReportFromBook;
 use crate::faults::ReportFromReader;
 use crate::targets::put_targets;
 use pieces::output::Output;
 use reader::reader::read;
+use sheets::laws::layout_stands;
 use sheets::sheet::Sheet;
 use sheets::sheet::SheetBook;
 use sheets::sheet::check;
@@ -98,7 +99,11 @@ fn report_into(
     ensures reports { λ r. ⌜ Report-of (readText (roomsIn (lent (now (rules .entry)) (now (targets .entry)) (now (names .entry)))) (now (text .entry)))
         (now (text .entry)) (lent (now (rules .entry)) (now (targets .entry)) (now (names .entry))) (size (now (out .entry))) r
         (now (rules .exit)) (now (targets .exit)) (now (names .exit)) (now (now (out .exit) .places)) ⌝ }
+    ensures tells { λ r. ⌜ Told-of (readText (roomsIn (lent (now (rules .entry)) (now (targets .entry)) (now (names .entry)))) (now (text .entry)))
+        (now (text .entry)) (lent (now (rules .entry)) (now (targets .entry)) (now (names .entry))) (size (now (out .entry))) r (now (now (out .exit) .places)) ⌝ }
 {
+    // what is laid out passes the sheet's check and reads back
+    layout_stands();
     let put = read_and_put(out, text, rules, targets, names);
     clear_after(put, rules, targets, names);
     close(out, put)
@@ -116,6 +121,8 @@ pub fn report(
     ensures reports { λ r. ⌜ Report-of (readText (roomsIn (lent (now (rules .entry)) (now (targets .entry)) (now (names .entry)))) (now (text .entry)))
         (now (text .entry)) (lent (now (rules .entry)) (now (targets .entry)) (now (names .entry))) (length (now (output .entry))) r
         (now (rules .exit)) (now (targets .exit)) (now (names .exit)) (now (output .exit)) ⌝ }
+    ensures tells { λ r. ⌜ Told-of (readText (roomsIn (lent (now (rules .entry)) (now (targets .entry)) (now (names .entry)))) (now (text .entry)))
+        (now (text .entry)) (lent (now (rules .entry)) (now (targets .entry)) (now (names .entry))) (length (now (output .entry))) r (now (output .exit)) ⌝ }
 {
     let mut out = Output {
         places: output,

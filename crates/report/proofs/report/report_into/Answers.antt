@@ -6,6 +6,7 @@ use Rattle.reader.specs.Format.{readText}
 use Rattle.reader.specs.Reads.{lent, roomsIn}
 use Rattle.pieces.proofs.Steps.{same-trans}
 use Rattle.report.proofs.Whole.{closes-whole}
+use Rattle.report.proofs.Sounds.{tells as tells-of}
 use Rattle.report.proofs.report.report_into.Needs as need
 
 pub returns : need.returns
@@ -19,8 +20,11 @@ returns c =
     let x : length rs ≡ l .rules = search needs in
     let y : length ts ≡ l .targets = search needs in
     let z : length ns ≡ l .names = search needs in
+    let whole = closes-whole (readText (roomsIn l) (a .text .now)) (a .text .now) l (a .out .now) (c .read-and-put-put .last .out) (c .read-and-put-put .result) rs ts ns
+    _ _ _ _ _ (c .pre) (told .same) x y z (told .reads) (c .close .ensures .answer) (c .clear-after .ensures .rules) (c .clear-after .ensures .targets) (c .clear-after .ensures .names) (c .close .ensures .places) in
     record {
       same = same-trans (told .same) (c .close .ensures .same);
-      reports = closes-whole (readText (roomsIn l) (a .text .now)) (a .text .now) l (a .out .now) (c .read-and-put-put .last .out) (c .read-and-put-put .result) rs ts ns
-          _ _ _ _ _ (c .pre) (told .same) x y z (told .reads) (c .close .ensures .answer) (c .clear-after .ensures .rules) (c .clear-after .ensures .targets) (c .clear-after .ensures .names) (c .close .ensures .places);
+      reports = whole;
+      tells = tells-of (c .layout-stands .ensures .written) (c .layout-stands .ensures .passing) l (a .text .now) (readText (roomsIn l) (a .text .now)) refl
+          _ _ _ _ _ _ whole;
     }
