@@ -1,4 +1,6 @@
 // The merchant's question: which targets follow from the season's book?
+#![tactic(auto)]
+
 mod answer;
 mod checking;
 mod help;

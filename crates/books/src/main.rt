@@ -1,4 +1,6 @@
 // Joins a sheet and a key list, and lists the book that they make.
+#![tactic(auto)]
+
 mod input;
 
 use anyhow::anyhow;

@@ -1,5 +1,7 @@
 // Works eight trials through: for each the book, the target, each call's answer, the verdict, the merges and, where the
 // target fails, the counter rows. Variables and symbols are written $0, $1, ..; the second copy's symbols begin at $32.
+#![tactic(auto)]
+
 mod rules_told;
 mod trial_told;
 mod words;

@@ -1,4 +1,5 @@
 // The edges of sheets, key lists and joined books: each case with what comes of it.
+#![tactic(auto)]
 
 mod joining;
 mod key_lists;

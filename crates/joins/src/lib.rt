@@ -1,4 +1,6 @@
 // Two books as one.
+#![tactic(auto)]
+
 pub mod fault;
 pub mod joined;
 mod place;

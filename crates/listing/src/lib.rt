@@ -1,2 +1,4 @@
 // A book in words.
+#![tactic(auto)]
+
 pub mod listing;

@@ -1,6 +1,8 @@
 // How many rules of each set the same eight rows keep, and how many times a row was held against a row of a pattern.
 // With a set's name and a number as arguments, so many rules of that set are looked at by the plain walk over the doubled
 // pattern instead.
+#![tactic(auto)]
+
 mod sets;
 
 use rules::book::Book;

@@ -1,4 +1,6 @@
 // Lines put together from pieces: fixed words, numbers, names, and `$` with a symbol.
+#![tactic(auto)]
+
 pub mod laws;
 pub mod line;
 pub mod output;

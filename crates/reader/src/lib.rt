@@ -1,4 +1,6 @@
 // The reader: a text is read as the book and the targets that it spells.
+#![tactic(auto)]
+
 mod count;
 pub mod desk;
 mod entry;

@@ -1,4 +1,6 @@
 // Texts, and how they are read.
+#![tactic(auto)]
+
 use reader::desk::Sizes;
 use reader::fault::{Cause, ReadFault};
 use spelling::spelled::read;

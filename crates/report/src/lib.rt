@@ -1,4 +1,6 @@
 // The report: a text in, verdicts and counter rows out.
+#![tactic(auto)]
+
 pub mod answer;
 pub mod fault;
 pub mod faults;

@@ -1,4 +1,6 @@
 // The edges of reports and of refusal lines: each case with what comes of it.
+#![tactic(auto)]
+
 mod lines;
 mod making;
 mod saying;

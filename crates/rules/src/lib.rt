@@ -1,4 +1,6 @@
 // What rules mean, and the one trait through which all code asks a book of them.
+#![tactic(auto)]
+
 pub mod book;
 pub mod doubling;
 pub mod fault;

@@ -1,4 +1,6 @@
 // Where the rows of a relation break a rule of a book, or that they keep it.
+#![tactic(auto)]
+
 mod bounds;
 mod cell;
 mod choices;

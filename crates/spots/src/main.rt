@@ -1,4 +1,6 @@
 // Hand-made relations, each with what a search in it comes to.
+#![tactic(auto)]
+
 mod saying;
 
 use saying::{print_search, print_turns};

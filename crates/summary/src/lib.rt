@@ -1,4 +1,6 @@
 // What a text is read as, in words.
+#![tactic(auto)]
+
 mod beginning;
 pub mod laws;
 mod putting;

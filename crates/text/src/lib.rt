@@ -1,4 +1,6 @@
 // A list over lent places, and the lines, words and counts of a text of bytes.
+#![tactic(auto)]
+
 pub mod counts;
 pub mod laws;
 pub mod lines;

@@ -1,4 +1,6 @@
 // Trials: whether a rule follows from a book.
+#![tactic(auto)]
+
 pub mod fault;
 pub mod finished;
 mod fresh;

@@ -1,4 +1,6 @@
 // Eight trials worked through, proved of the definitions.
+#![tactic(auto)]
+
 ghost use Rattle.worked.specs.Works.{EveryCaseWorks};
 
 // What every trial of each case comes to, whichever open spots it takes.

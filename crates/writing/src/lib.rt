@@ -1,4 +1,6 @@
 // What came of targets, and a refusal, written as lines.
+#![tactic(auto)]
+
 pub mod closing;
 pub mod laws;
 pub mod refused;
