@@ -1,5 +1,6 @@
 // Numbers in decimal, as a person types them.
-use std::alloc::{AllocError, Global};
+use anyhow::anyhow;
+use std::alloc::Global;
 
 // The words of a sheet: the first line.
 pub fn sheet_words(heap: Global, line: &str) -> anyhow::Result<Vec<u32>> {
@@ -7,7 +8,7 @@ pub fn sheet_words(heap: Global, line: &str) -> anyhow::Result<Vec<u32>> {
     for (i, word) in line.split_whitespace().enumerate() {
         match word.parse::<u32>() {
             Ok(x) => words.push(x)?,
-            Err(_) => return Err(bad_word(heap, 1, i, word, "a number from 0 to 4294967295")?),
+            Err(_) => return Err(bad_word(1, i, word, "a number from 0 to 4294967295")),
         }
     }
     Ok(words)
@@ -21,12 +22,12 @@ pub fn key_list(heap: Global, line: &str) -> anyhow::Result<(usize, Vec<u8>)> {
         if i == 0 {
             match word.parse::<usize>() {
                 Ok(x) => width = x,
-                Err(_) => return Err(bad_word(heap, 2, i, word, "a width")?),
+                Err(_) => return Err(bad_word(2, i, word, "a width")),
             }
         } else {
             match word.parse::<u8>() {
                 Ok(x) => bytes.push(x)?,
-                Err(_) => return Err(bad_word(heap, 2, i, word, "a byte from 0 to 255")?),
+                Err(_) => return Err(bad_word(2, i, word, "a byte from 0 to 255")),
             }
         }
     }
@@ -34,14 +35,7 @@ pub fn key_list(heap: Global, line: &str) -> anyhow::Result<(usize, Vec<u8>)> {
 }
 
 // What is wrong, by its line and word, both from 1.
-fn bad_word(
-    heap: Global,
-    line: usize,
-    index: usize,
-    word: &str,
-    wanted: &str,
-) -> Result<anyhow::Error, AllocError> {
+fn bad_word(line: usize, index: usize, word: &str, wanted: &str) -> anyhow::Error {
     let place = index.saturating_add(1);
-    let text = format!(in heap; "line {line}, word {place}: '{word}' is not {wanted}")?;
-    Ok(text.into())
+    anyhow!("line {line}, word {place}: '{word}' is not {wanted}")
 }

@@ -80,7 +80,7 @@ fn push_terms<B: Book>(
     rule: usize,
     row: usize,
 ) -> Result<(), AllocError>
-    ensures { OnOk result (((terms : List Term) → row_at (meaning book.now).rules rule row ≡ Some terms → string_bytes out.new ≡ string_bytes out.old ++ flat_map term_text terms)) }
+    ensures { OnOk result (((terms : List Term) → row_at (B.meaning book.now).rules rule row ≡ Some terms → string_bytes out.new ≡ string_bytes out.old ++ flat_map term_text terms)) }
 {
     for column in 0..8 {
         push_term(heap, out, book.term(rule, row, column))?;
@@ -96,7 +96,7 @@ fn push_row<B: Book>(
     rule: usize,
     row: usize,
 ) -> Result<(), AllocError>
-    ensures { OnOk result (((terms : List Term) → row_at (meaning book.now).rules rule row ≡ Some terms → string_bytes out.new ≡ string_bytes out.old ++ row_text terms)) }
+    ensures { OnOk result (((terms : List Term) → row_at (B.meaning book.now).rules rule row ≡ Some terms → string_bytes out.new ≡ string_bytes out.old ++ row_text terms)) }
 {
     push_text(out, "  row")?;
     push_terms(heap, out, book, rule, row)?;
@@ -111,7 +111,7 @@ fn push_lefts<B: Book>(
     book: &B,
     rule: usize,
 ) -> Result<(), AllocError>
-    ensures { OnOk result (((it : Rule) → slice_get (meaning book.now).rules rule ≡ Some it → string_bytes out.new ≡ string_bytes out.old ++ flat_map left_text it.left)) }
+    ensures { OnOk result (((it : Rule) → slice_get (B.meaning book.now).rules rule ≡ Some it → string_bytes out.new ≡ string_bytes out.old ++ flat_map left_text it.left)) }
 {
     for k in 0..32 {
         push_left(heap, out, book.left(rule, k))?;
@@ -126,7 +126,7 @@ fn push_rights<B: Book>(
     book: &B,
     rule: usize,
 ) -> Result<(), AllocError>
-    ensures { OnOk result (((it : Rule) → slice_get (meaning book.now).rules rule ≡ Some it → string_bytes out.new ≡ string_bytes out.old ++ flat_map right_text it.pairs)) }
+    ensures { OnOk result (((it : Rule) → slice_get (B.meaning book.now).rules rule ≡ Some it → string_bytes out.new ≡ string_bytes out.old ++ flat_map right_text it.pairs)) }
 {
     for k in 0..32 {
         push_right(heap, out, book.pair(rule, k))?;
@@ -141,7 +141,7 @@ fn push_pairs<B: Book>(
     book: &B,
     rule: usize,
 ) -> Result<(), AllocError>
-    ensures { OnOk result (((it : Rule) → slice_get (meaning book.now).rules rule ≡ Some it → string_bytes out.new ≡ string_bytes out.old ++ flat_map pair_text it.pairs)) }
+    ensures { OnOk result (((it : Rule) → slice_get (B.meaning book.now).rules rule ≡ Some it → string_bytes out.new ≡ string_bytes out.old ++ flat_map pair_text it.pairs)) }
 {
     for k in 0..32 {
         push_pair(heap, out, book.pair(rule, k))?;
@@ -156,7 +156,7 @@ fn push_rows<B: Book>(
     book: &B,
     rule: usize,
 ) -> Result<(), AllocError>
-    ensures { OnOk result (((it : Rule) → slice_get (meaning book.now).rules rule ≡ Some it → string_bytes out.new ≡ string_bytes out.old ++ flat_map row_text it.pattern)) }
+    ensures { OnOk result (((it : Rule) → slice_get (B.meaning book.now).rules rule ≡ Some it → string_bytes out.new ≡ string_bytes out.old ++ flat_map row_text it.pattern)) }
 {
     let rows = book.rows(rule).unwrap_or(0);
     for row in 0..rows {
@@ -172,7 +172,7 @@ fn push_sides<B: Book>(
     book: &B,
     rule: usize,
 ) -> Result<(), AllocError>
-    ensures { OnOk result (((it : Rule) → slice_get (meaning book.now).rules rule ≡ Some it → string_bytes out.new ≡ string_bytes out.old ++ lists_text Functional it)) }
+    ensures { OnOk result (((it : Rule) → slice_get (B.meaning book.now).rules rule ≡ Some it → string_bytes out.new ≡ string_bytes out.old ++ lists_text Functional it)) }
 {
     push_text(out, "  left")?;
     push_lefts(heap, out, book, rule)?;
@@ -190,7 +190,7 @@ fn push_lists<B: Book>(
     rule: usize,
     kind: Kind,
 ) -> Result<(), AllocError>
-    ensures { OnOk result (((it : Rule) → slice_get (meaning book.now).rules rule ≡ Some it → string_bytes out.new ≡ string_bytes out.old ++ lists_text kind it)) }
+    ensures { OnOk result (((it : Rule) → slice_get (B.meaning book.now).rules rule ≡ Some it → string_bytes out.new ≡ string_bytes out.old ++ lists_text kind it)) }
 {
     match kind {
         Kind::Functional => push_sides(heap, out, book, rule),
@@ -216,7 +216,7 @@ fn push_rule<B: Book>(
     rule: usize,
     kind: Kind,
 ) -> Result<(), AllocError>
-    ensures { OnOk result (((it : Rule) → slice_get (meaning book.now).rules rule ≡ Some it → kind ≡ it.kind → string_bytes out.new ≡ string_bytes out.old ++ rule_text rule it)) }
+    ensures { OnOk result (((it : Rule) → slice_get (B.meaning book.now).rules rule ≡ Some it → kind ≡ it.kind → string_bytes out.new ≡ string_bytes out.old ++ rule_text rule it)) }
 {
     let head = format!(in heap; "rule {rule}: ")?;
     push_text(out, head.as_str())?;
@@ -228,7 +228,7 @@ fn push_rule<B: Book>(
 
 // Writes the rule with this number, where there is one.
 fn push_at<B: Book>(heap: Global, out: &mut String, book: &B, rule: usize) -> Result<(), AllocError>
-    ensures { OnOk result (((it : Rule) → slice_get (meaning book.now).rules rule ≡ Some it → string_bytes out.new ≡ string_bytes out.old ++ rule_text rule it)) }
+    ensures { OnOk result (((it : Rule) → slice_get (B.meaning book.now).rules rule ≡ Some it → string_bytes out.new ≡ string_bytes out.old ++ rule_text rule it)) }
 {
     match book.kind(rule) {
         None => Ok(()),
@@ -241,7 +241,7 @@ fn push_at<B: Book>(heap: Global, out: &mut String, book: &B, rule: usize) -> Re
 
 // A book in words, rule by rule.
 pub fn list_book<B: Book>(heap: Global, book: &B) -> Result<String, AllocError>
-    ensures { IfOk result (λ s. string_bytes s ≡ rules_text 0 (meaning book.now).rules) }
+    ensures { IfOk result (λ s. string_bytes s ≡ rules_text 0 (B.meaning book.now).rules) }
 {
     let mut out = String::new(heap);
     for rule in 0..book.count() {

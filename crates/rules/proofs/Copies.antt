@@ -1,5 +1,5 @@
 -- The second copy of a pattern.
-use Rattle.std.proofs.Common.{◌≡◌, ℕ, zero, suc, ◌+◌, ◌-◌, ◌<◌, ◌≤◌, Bool, true, false, cond, ◌||◌, ◌⊎◌, List, [], ◌∷◌, ◌++◌, map, length, get_or, Some, sym, refl, ap, ◌∙◌, subst, inl, inr, arith}
+use Rattle.std.proofs.Common.{◌≡◌, ℕ, zero, suc, ◌+◌, ◌-◌, ◌<◌, ◌≤◌, true, false, ◌⊎◌, List, [], ◌++◌, map, length, get_or, Some, sym, ap, ◌∙◌, subst, inl, inr, arith}
 use mathlib.Core.List.Memᴰ
 use Rattle.std.specs.List.{range_with_len, slice_get}
 use Rattle.std.proofs.lemmas.Bool.{cond-true, cond-false, cases_Bool, cases_lt}
@@ -10,7 +10,7 @@ use Rattle.rules.specs.declared.term.Term.{Term}
 use Rattle.rules.specs.declared.term.Term.TheVariants.{Constant, Variable}
 use Rattle.rules.specs.declared.term.Kind.TheVariants.{Functional, Equality}
 use Rattle.rules.specs.declared.loaded.LoadedRule.{LoadedRule}
-use Rattle.rules.specs.Rules.{◌∈◌, Pattern, Rule}
+use Rattle.rules.specs.Rules.{◌∈◌}
 use Rattle.rules.specs.Books.{LeftOf, Known, Small}
 use Rattle.rules.specs.Doubled.{holds, copied, doubled, doubled_rows_as, doubled_pairs_as}
 use Rattle.rules.specs.Loaded.{term_of, code_at, left_var, one_at, other_at, meant_row, meant, OfBook, Sized, no_codes}

@@ -10,10 +10,10 @@ use Rattle.rules.specs.declared.term.Kind.{Kind}
 use Rattle.rules.specs.declared.term.Kind.TheVariants.{Equality}
 use Rattle.rules.specs.declared.loaded.LoadedRule.{LoadedRule}
 use Rattle.rules.specs.Rules.{◌∈◌, Rule}
-use Rattle.rules.specs.Books.{BookMeaning, within, kind_at, rows_at, term_at, left_at, pair_at, WellFormed, WellFormedBook, Known, Small}
-use Rattle.rules.specs.Loaded.{term_of, code_at, left_var, one_at, other_at, no_pair, meant_row, meant, Codes, CodesPair, Answered, Loaded, OfBook}
+use Rattle.rules.specs.Books.{BookMeaning, within, kind_at, rows_at, term_at, left_at, pair_at, WellFormed, WellFormedBook}
+use Rattle.rules.specs.Loaded.{term_of, code_at, left_var, one_at, other_at, no_pair, meant_row, meant, Codes, CodesPair, Answered, Loaded}
 use Rattle.rules.proofs.Doubles.{known_small}
-use Rattle.rules.proofs.Nths.{some_same, some_none, nth_member, nth_none, counted_is, answered_length}
+use Rattle.rules.proofs.Nths.{some_same, some_none, nth_member, counted_is, answered_length}
 
 abbrev no_rule : Rule
 no_rule = record { kind = Equality; pattern = []; left = []; pairs = [] }

@@ -106,7 +106,7 @@ fn doubled_of(rule: &LoadedRule) -> LoadedRule
 
 // The doubled form of rule number `rule` of the book, or none past the last.
 pub fn load_doubled<B: Book>(book: &B, rule: usize) -> Option<LoadedRule>
-    ensures { MatchOption result (length (meaning book.now).rules ≤ rule) (DoubledOf (meaning book.now) rule) }
+    ensures { MatchOption result (length (B.meaning book.now).rules ≤ rule) (DoubledOf (B.meaning book.now) rule) }
 {
     match load(book, rule) {
         Some(loaded) => Some(doubled_of(&loaded)),

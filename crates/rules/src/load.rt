@@ -20,7 +20,7 @@ pub fn code_of(t: Term) -> u32
 
 // The code of an entry of a pattern.
 fn load_code<B: Book>(book: &B, rule: usize, row: usize, column: usize) -> u32
-    ensures { (t : Term) → term_at (meaning book.now).rules rule row column ≡ Some t → Codes t result }
+    ensures { (t : Term) → term_at (B.meaning book.now).rules rule row column ≡ Some t → Codes t result }
 {
     match book.term(rule, row, column) {
         Some(t) => code_of(t),
@@ -30,7 +30,7 @@ fn load_code<B: Book>(book: &B, rule: usize, row: usize, column: usize) -> u32
 
 // The codes of a row.
 fn load_row<B: Book>(book: &B, rule: usize, row: usize) -> CodeRow
-    ensures { (j : ℕ) → j < 8 → (t : Term) → term_at (meaning book.now).rules rule row j ≡ Some t → Codes t (slice_index result.codes j) }
+    ensures { (j : ℕ) → j < 8 → (t : Term) → term_at (B.meaning book.now).rules rule row j ≡ Some t → Codes t (slice_index result.codes j) }
 {
     let mut codes: [u32; 8] = [0; 8];
     for column in 0..8 {
@@ -41,7 +41,7 @@ fn load_row<B: Book>(book: &B, rule: usize, row: usize) -> CodeRow
 
 // The codes of a pattern.
 fn load_rows<B: Book>(book: &B, rule: usize) -> [CodeRow; 8]
-    ensures { (i : ℕ) → i < 4 → (j : ℕ) → j < 8 → (t : Term) → term_at (meaning book.now).rules rule i j ≡ Some t → Codes t (slice_index (get_or result i no_codes).codes j) }
+    ensures { (i : ℕ) → i < 4 → (j : ℕ) → j < 8 → (t : Term) → term_at (B.meaning book.now).rules rule i j ≡ Some t → Codes t (slice_index (get_or result i no_codes).codes j) }
 {
     let mut rows = [CodeRow { codes: [0; 8] }; 8];
     for row in 0..4 {
@@ -58,7 +58,7 @@ struct Lefts {
 }
 
 fn load_left<B: Book>(book: &B, rule: usize) -> Lefts
-    ensures { Answered (left_at (meaning book.now).rules rule) (λ k v. slice_index result.left k ≡ v) result.count }
+    ensures { Answered (left_at (B.meaning book.now).rules rule) (λ k v. slice_index result.left k ≡ v) result.count }
 {
     let mut left: [u8; 32] = [0; 32];
     for k in 0..32 {
@@ -78,7 +78,7 @@ struct Pairs {
 }
 
 fn load_pairs<B: Book>(book: &B, rule: usize) -> Pairs
-    ensures { Answered (pair_at (meaning book.now).rules rule) (λ k p. CodesPair p (slice_index_or result.pairs k no_pair)) result.count }
+    ensures { Answered (pair_at (B.meaning book.now).rules rule) (λ k p. CodesPair p (slice_index_or result.pairs k no_pair)) result.count }
 {
     let mut pairs = [CodePair { one: 0, other: 0 }; 32];
     for k in 0..32 {
@@ -97,7 +97,7 @@ fn load_pairs<B: Book>(book: &B, rule: usize) -> Pairs
 
 // Rule number `rule` of the book, or none past the last.
 pub fn load<B: Book>(book: &B, rule: usize) -> Option<LoadedRule>
-    ensures { MatchOption result (length (meaning book.now).rules ≤ rule) (Loaded (meaning book.now) rule) }
+    ensures { MatchOption result (length (B.meaning book.now).rules ≤ rule) (Loaded (B.meaning book.now) rule) }
 {
     let Some(kind) = book.kind(rule) else {
         return None;

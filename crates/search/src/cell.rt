@@ -4,7 +4,7 @@ use crate::relation::Relation;
 
 // The entry, or 0 past an end.
 pub(crate) fn cell<R: Relation>(relation: &R, row: usize, column: usize) -> u32
-    ensures { result ≡ slice_index (slice_index_or (meaning relation.now).rows row []) column }
+    ensures { result ≡ slice_index (slice_index_or (R.meaning relation.now).rows row []) column }
 {
     match relation.entry(row, column) {
         Some(number) => number,

@@ -15,9 +15,9 @@ pub struct Choices {
 
 // Whether the two rows are equal.
 fn same_row<R: Relation>(relation: &R, a: usize, b: usize) -> bool
-    requires a { a < length (meaning relation.now).rows }
-    requires b { b < length (meaning relation.now).rows }
-    ensures { result ≡ true → slice_index_or (meaning relation.now).rows a [] ≡ slice_index_or (meaning relation.now).rows b [] }
+    requires a { a < length (R.meaning relation.now).rows }
+    requires b { b < length (R.meaning relation.now).rows }
+    ensures { result ≡ true → slice_index_or (R.meaning relation.now).rows a [] ≡ slice_index_or (R.meaning relation.now).rows b [] }
 {
     let width = relation.width();
     for column in 0..width {
@@ -30,11 +30,11 @@ fn same_row<R: Relation>(relation: &R, a: usize, b: usize) -> bool
 
 // Whether a row is one of those picked so far.
 fn is_picked<R: Relation>(relation: &R, choices: &Choices, row: usize, few: usize) -> bool
-    requires row { row < length (meaning relation.now).rows }
+    requires row { row < length (R.meaning relation.now).rows }
     requires few { few ≤ 8 }
     requires some { choices.now.all ≡ false }
-    requires picks { Picks (meaning relation.now).rows choices.now few }
-    ensures { result ≡ true → Chosen (meaning relation.now).rows choices.now row }
+    requires picks { Picks (R.meaning relation.now).rows choices.now few }
+    ensures { result ≡ true → Chosen (R.meaning relation.now).rows choices.now row }
 {
     for m in 0..choices.count {
         if same_row(relation, choices.rows[m], row) {
@@ -45,8 +45,8 @@ fn is_picked<R: Relation>(relation: &R, choices: &Choices, row: usize, few: usiz
 }
 
 fn distinct_rows<R: Relation>(relation: &R) -> Choices
-    requires { length (meaning relation.now).rows ≤ 8 }
-    ensures { Picks (meaning relation.now).rows result (length (meaning relation.now).rows) }
+    requires { length (R.meaning relation.now).rows ≤ 8 }
+    ensures { Picks (R.meaning relation.now).rows result (length (R.meaning relation.now).rows) }
 {
     let mut choices = Choices {
         rows: [0; 8],
@@ -64,7 +64,7 @@ fn distinct_rows<R: Relation>(relation: &R) -> Choices
 }
 
 pub(crate) fn choices_of<R: Relation>(relation: &R) -> Choices
-    ensures { Picks (meaning relation.now).rows result (length (meaning relation.now).rows) }
+    ensures { Picks (R.meaning relation.now).rows result (length (R.meaning relation.now).rows) }
 {
     let count = relation.rows();
     if count > 8 {

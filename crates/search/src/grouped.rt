@@ -21,10 +21,10 @@ fn fits<R: Relation>(
     requires groupable { Groupable rule.now }
     requires plan { Planned rule.now plan.now }
     requires depth { depth < rule.now.row_count }
-    requires within { place placing.now.rows depth < length (meaning relation.now).rows }
-    requires fitting { Fitting (meaning relation.now).rows rule.now }
-    ensures yes { result ≡ true → Lands (meaning relation.now).rows rule.now (filled (meaning relation.now).rows plan.now placing.now.rows) depth (place placing.now.rows depth) }
-    ensures no { Lands (meaning relation.now).rows rule.now (filled (meaning relation.now).rows plan.now placing.now.rows) depth (place placing.now.rows depth) → result ≡ true }
+    requires within { place placing.now.rows depth < length (R.meaning relation.now).rows }
+    requires fitting { Fitting (R.meaning relation.now).rows rule.now }
+    ensures yes { result ≡ true → Lands (R.meaning relation.now).rows rule.now (filled (R.meaning relation.now).rows plan.now placing.now.rows) depth (place placing.now.rows depth) }
+    ensures no { Lands (R.meaning relation.now).rows rule.now (filled (R.meaning relation.now).rows plan.now placing.now.rows) depth (place placing.now.rows depth) → result ≡ true }
 {
     for t in 0..plan.tests[depth].count {
         let column = plan.tests[depth].columns[t];
@@ -66,13 +66,13 @@ fn extend<R: Relation>(
     requires plan { Planned rule.now plan.now }
     requires bound { Bounded rule.now bound }
     requires depth { depth ≤ rule.now.row_count }
-    requires few { length (meaning relation.now).rows ≤ 8 }
-    requires picks { Picks (meaning relation.now).rows choices.now (length (meaning relation.now).rows) }
-    requires fitting { Fitting (meaning relation.now).rows rule.now }
-    requires fine { Fine (meaning relation.now).rows rule.now plan.now seen.old }
+    requires few { length (R.meaning relation.now).rows ≤ 8 }
+    requires picks { Picks (R.meaning relation.now).rows choices.now (length (R.meaning relation.now).rows) }
+    requires fitting { Fitting (R.meaning relation.now).rows rule.now }
+    requires fine { Fine (R.meaning relation.now).rows rule.now plan.now seen.old }
     requires room { seen.old.used + ways choices.now rule.now depth ≤ 4096 }
-    requires lands { Landed (meaning relation.now).rows rule.now plan.now placing.rows depth }
-    ensures { MatchOption result (Went (meaning relation.now).rows rule.now plan.now seen.old seen.new (ways choices.now rule.now depth) × Covers (meaning relation.now).rows rule.now plan.now seen.new depth placing.rows) (PartingAt (meaning relation.now).rows rule.now) }
+    requires lands { Landed (R.meaning relation.now).rows rule.now plan.now placing.rows depth }
+    ensures { MatchOption result (Went (R.meaning relation.now).rows rule.now plan.now seen.old seen.new (ways choices.now rule.now depth) × Covers (R.meaning relation.now).rows rule.now plan.now seen.new depth placing.rows) (PartingAt (R.meaning relation.now).rows rule.now) }
 {
     if depth == rule.row_count {
         return settle(relation, rule, plan, &placing, seen);
@@ -120,13 +120,13 @@ pub(crate) fn try_group<R: Relation>(
     requires groupable { Groupable rule.now }
     requires plan { Planned rule.now plan.now }
     requires bound { Bounded rule.now bound }
-    requires few { length (meaning relation.now).rows ≤ 8 }
-    requires picks { Picks (meaning relation.now).rows choices.now (length (meaning relation.now).rows) }
+    requires few { length (R.meaning relation.now).rows ≤ 8 }
+    requires picks { Picks (R.meaning relation.now).rows choices.now (length (R.meaning relation.now).rows) }
     requires m { m < choices.now.count }
-    requires fitting { Fitting (meaning relation.now).rows rule.now }
-    requires fine { Fine (meaning relation.now).rows rule.now plan.now seen.old }
+    requires fitting { Fitting (R.meaning relation.now).rows rule.now }
+    requires fine { Fine (R.meaning relation.now).rows rule.now plan.now seen.old }
     requires room { seen.old.used + ways choices.now rule.now 1 ≤ 4096 }
-    ensures { MatchOption result (Went (meaning relation.now).rows rule.now plan.now seen.old seen.new (ways choices.now rule.now 1) × Tried (meaning relation.now).rows rule.now plan.now seen.new 0 (replicate 4 0) (chosen choices.now m)) (PartingAt (meaning relation.now).rows rule.now) }
+    ensures { MatchOption result (Went (R.meaning relation.now).rows rule.now plan.now seen.old seen.new (ways choices.now rule.now 1) × Tried (R.meaning relation.now).rows rule.now plan.now seen.new 0 (replicate 4 0) (chosen choices.now m)) (PartingAt (R.meaning relation.now).rows rule.now) }
 {
     let mut next = Placing { rows: [0; 4] };
     next.rows[0] = row_at(choices, m) as u8;

@@ -46,10 +46,10 @@ fn begin_groups<R: Relation>(
     number: usize,
     seen: &mut Seen,
 ) -> Option<Look>
-    requires few { length (meaning relation.now).rows ≤ 8 }
+    requires few { length (R.meaning relation.now).rows ≤ 8 }
     requires of { OfBook own.now }
     requires kind { own.now.kind ≡ Functional }
-    ensures { MatchOption result (Keeps (meaning relation.now).rows (meant own.now)) (λ look. (look.number ≡ number) × (look.own ≡ own.now) × (look.grouped ≡ true) × GroupReady (meaning relation.now).rows look × Fine (meaning relation.now).rows look.rule look.plan seen.new × (seen.new.used ≡ 0)) }
+    ensures { MatchOption result (Keeps (R.meaning relation.now).rows (meant own.now)) (λ look. (look.number ≡ number) × (look.own ≡ own.now) × (look.grouped ≡ true) × GroupReady (R.meaning relation.now).rows look × Fine (R.meaning relation.now).rows look.rule look.plan seen.new × (seen.new.used ≡ 0)) }
 {
     if relation.width() != own.width {
         return None;
@@ -77,7 +77,7 @@ fn begin_groups<R: Relation>(
 fn begin_walk<R: Relation>(relation: &R, form: &LoadedRule, number: usize) -> Option<Look>
     requires sound { Sound form.now }
     requires kind { form.now.kind ≡ Equality }
-    ensures { MatchOption result (Keeps (meaning relation.now).rows (meant form.now)) (λ look. (look.number ≡ number) × (look.own ≡ form.now) × (look.grouped ≡ false) × WalkReady (meaning relation.now).rows look) }
+    ensures { MatchOption result (Keeps (R.meaning relation.now).rows (meant form.now)) (λ look. (look.number ≡ number) × (look.own ≡ form.now) × (look.grouped ≡ false) × WalkReady (R.meaning relation.now).rows look) }
 {
     if relation.width() != form.width {
         return None;
@@ -141,10 +141,10 @@ fn from_group<R: Relation>(
     seen: &mut Seen,
     tests: &mut u64,
 ) -> Option<Spot>
-    requires picks { Picks (meaning relation.now).rows choices.now (length (meaning relation.now).rows) }
+    requires picks { Picks (R.meaning relation.now).rows choices.now (length (R.meaning relation.now).rows) }
     requires m { m < choices.now.count }
-    requires tried { GroupTried (meaning relation.now).rows choices.now seen.old look.now m }
-    ensures { MatchOption result (GroupTried (meaning relation.now).rows choices.now seen.new look.now (m + 1)) (λ s. Looked (meaning relation.now).rows (meant look.now.own) look.now.number (Some s)) }
+    requires tried { GroupTried (R.meaning relation.now).rows choices.now seen.old look.now m }
+    ensures { MatchOption result (GroupTried (R.meaning relation.now).rows choices.now seen.new look.now (m + 1)) (λ s. Looked (R.meaning relation.now).rows (meant look.now.own) look.now.number (Some s)) }
 {
     match try_group(
         relation, &look.rule, &look.plan, choices, look.bound, m, seen, tests,
@@ -168,10 +168,10 @@ pub(crate) fn from_place<R: Relation>(
     m: usize,
     tests: &mut u64,
 ) -> Option<Spot>
-    requires picks { Picks (meaning relation.now).rows choices.now (length (meaning relation.now).rows) }
+    requires picks { Picks (R.meaning relation.now).rows choices.now (length (R.meaning relation.now).rows) }
     requires m { m < choices.now.count }
-    requires tried { WalkTried (meaning relation.now).rows choices.now look.now m }
-    ensures { MatchOption result (WalkTried (meaning relation.now).rows choices.now look.now (m + 1)) (λ s. Looked (meaning relation.now).rows (meant look.now.own) look.now.number (Some s)) }
+    requires tried { WalkTried (R.meaning relation.now).rows choices.now look.now m }
+    ensures { MatchOption result (WalkTried (R.meaning relation.now).rows choices.now look.now (m + 1)) (λ s. Looked (R.meaning relation.now).rows (meant look.now.own) look.now.number (Some s)) }
 {
     match try_place(relation, &look.rule, &look.plan, choices, m, tests) {
         Some(split) => Some(spot_of(look.number, &split, look.rule.row_count)),
@@ -188,10 +188,10 @@ pub(crate) fn look_from<R: Relation>(
     seen: &mut Seen,
     tests: &mut u64,
 ) -> Option<Spot>
-    requires picks { Picks (meaning relation.now).rows choices.now (length (meaning relation.now).rows) }
+    requires picks { Picks (R.meaning relation.now).rows choices.now (length (R.meaning relation.now).rows) }
     requires m { m < choices.now.count }
-    requires progress { Progress (meaning relation.now).rows choices.now seen.old look.now m }
-    ensures { MatchOption result (Progress (meaning relation.now).rows choices.now seen.new look.now (m + 1)) (λ s. Looked (meaning relation.now).rows (meant look.now.own) look.now.number (Some s)) }
+    requires progress { Progress (R.meaning relation.now).rows choices.now seen.old look.now m }
+    ensures { MatchOption result (Progress (R.meaning relation.now).rows choices.now seen.new look.now (m + 1)) (λ s. Looked (R.meaning relation.now).rows (meant look.now.own) look.now.number (Some s)) }
 {
     if look.grouped {
         from_group(relation, look, choices, m, seen, tests)

@@ -12,7 +12,7 @@ use rules::loaded::LoadedRule;
 fn unlike<R: Relation>(relation: &R, rule: &LoadedRule, i: usize, row: usize) -> bool
     requires sound { Sound rule.now }
     requires i { i < rule.now.row_count }
-    ensures { result ≡ true → Unlike (meaning relation.now).rows rule.now i row }
+    ensures { result ≡ true → Unlike (R.meaning relation.now).rows rule.now i row }
 {
     for column in 0..rule.width {
         let code = rule.rows[i].codes[column];
@@ -28,7 +28,7 @@ fn one_value<R: Relation>(relation: &R, rule: &LoadedRule, i: usize, j: usize) -
     requires sound { Sound rule.now }
     requires i { i < rule.now.row_count }
     requires j { j < rule.now.width }
-    ensures { result ≡ true → OneValue (meaning relation.now).rows rule.now i (code_at rule.now i j) }
+    ensures { result ≡ true → OneValue (R.meaning relation.now).rows rule.now i (code_at rule.now i j) }
 {
     let mut found: Option<u32> = None;
     for row in 0..relation.rows() {
@@ -52,7 +52,7 @@ fn one_value<R: Relation>(relation: &R, rule: &LoadedRule, i: usize, j: usize) -
 pub(crate) fn is_quiet<R: Relation>(relation: &R, rule: &LoadedRule, plan: &Plan) -> bool
     requires sound { Sound rule.now }
     requires plan { Planned rule.now plan.now }
-    ensures { result ≡ true → AllAgree (meaning relation.now).rows rule.now }
+    ensures { result ≡ true → AllAgree (R.meaning relation.now).rows rule.now }
 {
     for r in 0..rule.pair_count {
         let code = rule.pairs[r].one;

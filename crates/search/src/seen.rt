@@ -55,7 +55,7 @@ pub(crate) fn read<R: Relation>(
     requires groupable { Groupable rule.now }
     requires code { code < 16777280 }
     requires rows { RowsFit rule.now plan.now }
-    ensures { result ≡ value (filled (meaning relation.now).rows plan.now placing.now.rows) code }
+    ensures { result ≡ value (filled (R.meaning relation.now).rows plan.now placing.now.rows) code }
 {
     if code < 16777216 {
         code
@@ -75,8 +75,8 @@ fn same_left<R: Relation>(
 ) -> bool
     requires groupable { Groupable rule.now }
     requires plan { RowsFit rule.now plan.now }
-    ensures yes { result ≡ true → SameLeft rule.now (filled (meaning relation.now).rows plan.now a.now.rows) (filled (meaning relation.now).rows plan.now b.now.rows) }
-    ensures no { SameLeft rule.now (filled (meaning relation.now).rows plan.now a.now.rows) (filled (meaning relation.now).rows plan.now b.now.rows) → result ≡ true }
+    ensures yes { result ≡ true → SameLeft rule.now (filled (R.meaning relation.now).rows plan.now a.now.rows) (filled (R.meaning relation.now).rows plan.now b.now.rows) }
+    ensures no { SameLeft rule.now (filled (R.meaning relation.now).rows plan.now a.now.rows) (filled (R.meaning relation.now).rows plan.now b.now.rows) → result ≡ true }
 {
     for l in 0..rule.left_count {
         let code = 16777216 + rule.left[l] as u32;
@@ -97,7 +97,7 @@ fn parted<R: Relation>(
 ) -> Option<Difference>
     requires groupable { Groupable rule.now }
     requires plan { RowsFit rule.now plan.now }
-    ensures { MatchOption result (SameRight rule.now (filled (meaning relation.now).rows plan.now a.now.rows) (filled (meaning relation.now).rows plan.now b.now.rows)) (λ d. Parts rule.now (filled (meaning relation.now).rows plan.now a.now.rows) (filled (meaning relation.now).rows plan.now b.now.rows) d.pair d.one d.other) }
+    ensures { MatchOption result (SameRight rule.now (filled (R.meaning relation.now).rows plan.now a.now.rows) (filled (R.meaning relation.now).rows plan.now b.now.rows)) (λ d. Parts rule.now (filled (R.meaning relation.now).rows plan.now a.now.rows) (filled (R.meaning relation.now).rows plan.now b.now.rows) d.pair d.one d.other) }
 {
     for pair in 0..rule.pair_count {
         let one = read(relation, rule, plan, a, rule.pairs[pair].one);
@@ -121,7 +121,7 @@ fn bucket_of<R: Relation>(relation: &R, rule: &LoadedRule, plan: &Plan, placing:
     requires groupable { Groupable rule.now }
     requires plan { RowsFit rule.now plan.now }
     ensures within { result < 1024 }
-    ensures value { result ≡ bucket (meaning relation.now).rows rule.now plan.now placing.now.rows }
+    ensures value { result ≡ bucket (R.meaning relation.now).rows rule.now plan.now placing.now.rows }
 {
     let mut hash: u64 = 0;
     for k in 0..rule.left_count {
@@ -142,10 +142,10 @@ fn look_up<R: Relation>(
 ) -> Option<usize>
     requires groupable { Groupable rule.now }
     requires plan { RowsFit rule.now plan.now }
-    requires fine { Fine (meaning relation.now).rows rule.now plan.now seen.now }
+    requires fine { Fine (R.meaning relation.now).rows rule.now plan.now seen.now }
     requires within { home < 1024 }
-    requires home { home ≡ bucket (meaning relation.now).rows rule.now plan.now placing.now.rows }
-    ensures { MatchOption result (New (meaning relation.now).rows rule.now plan.now seen.now placing.now.rows) (λ e. Old (meaning relation.now).rows rule.now plan.now seen.now placing.now.rows e) }
+    requires home { home ≡ bucket (R.meaning relation.now).rows rule.now plan.now placing.now.rows }
+    ensures { MatchOption result (New (R.meaning relation.now).rows rule.now plan.now seen.now placing.now.rows) (λ e. Old (R.meaning relation.now).rows rule.now plan.now seen.now placing.now.rows e) }
 {
     let mut at = seen.heads[home] as usize;
     while at > 0 {
@@ -167,14 +167,14 @@ fn add<R: Relation>(
     placing: &Placing,
     home: usize,
 )
-    requires fine { Fine (meaning relation.now).rows rule.now plan.now seen.old }
+    requires fine { Fine (R.meaning relation.now).rows rule.now plan.now seen.old }
     requires room { seen.old.used < 4096 }
-    requires lands { Landed (meaning relation.now).rows rule.now plan.now placing.now.rows rule.now.row_count }
-    requires new { New (meaning relation.now).rows rule.now plan.now seen.old placing.now.rows }
+    requires lands { Landed (R.meaning relation.now).rows rule.now plan.now placing.now.rows rule.now.row_count }
+    requires new { New (R.meaning relation.now).rows rule.now plan.now seen.old placing.now.rows }
     requires within { home < 1024 }
-    requires home { home ≡ bucket (meaning relation.now).rows rule.now plan.now placing.now.rows }
-    ensures went { Went (meaning relation.now).rows rule.now plan.now seen.old seen.new 1 }
-    ensures added { Covered (meaning relation.now).rows rule.now plan.now seen.new (filled (meaning relation.now).rows plan.now placing.now.rows) }
+    requires home { home ≡ bucket (R.meaning relation.now).rows rule.now plan.now placing.now.rows }
+    ensures went { Went (R.meaning relation.now).rows rule.now plan.now seen.old seen.new 1 }
+    ensures added { Covered (R.meaning relation.now).rows rule.now plan.now seen.new (filled (R.meaning relation.now).rows plan.now placing.now.rows) }
 {
     let place = seen.used;
     seen.placings[place] = *placing;
@@ -204,10 +204,10 @@ pub(crate) fn settle<R: Relation>(
 ) -> Option<Parting>
     requires groupable { Groupable rule.now }
     requires plan { RowsFit rule.now plan.now }
-    requires fine { Fine (meaning relation.now).rows rule.now plan.now seen.old }
+    requires fine { Fine (R.meaning relation.now).rows rule.now plan.now seen.old }
     requires room { seen.old.used < 4096 }
-    requires lands { Landed (meaning relation.now).rows rule.now plan.now placing.now.rows rule.now.row_count }
-    ensures { MatchOption result (Went (meaning relation.now).rows rule.now plan.now seen.old seen.new 1 × Covered (meaning relation.now).rows rule.now plan.now seen.new (filled (meaning relation.now).rows plan.now placing.now.rows)) (PartingAt (meaning relation.now).rows rule.now) }
+    requires lands { Landed (R.meaning relation.now).rows rule.now plan.now placing.now.rows rule.now.row_count }
+    ensures { MatchOption result (Went (R.meaning relation.now).rows rule.now plan.now seen.old seen.new 1 × Covered (R.meaning relation.now).rows rule.now plan.now seen.new (filled (R.meaning relation.now).rows plan.now placing.now.rows)) (PartingAt (R.meaning relation.now).rows rule.now) }
 {
     let home = bucket_of(relation, rule, plan, placing);
     match look_up(relation, rule, plan, seen, placing, home) {
@@ -239,8 +239,8 @@ pub(crate) fn is_covered<R: Relation>(
 ) -> bool
     requires groupable { Groupable rule.now }
     requires plan { RowsFit rule.now plan.now }
-    requires fine { Fine (meaning relation.now).rows rule.now plan.now seen.now }
-    ensures { result ≡ true → Covered (meaning relation.now).rows rule.now plan.now seen.now (filled (meaning relation.now).rows plan.now placing.now.rows) }
+    requires fine { Fine (R.meaning relation.now).rows rule.now plan.now seen.now }
+    ensures { result ≡ true → Covered (R.meaning relation.now).rows rule.now plan.now seen.now (filled (R.meaning relation.now).rows plan.now placing.now.rows) }
 {
     let home = bucket_of(relation, rule, plan, placing);
     match look_up(relation, rule, plan, seen, placing, home) {

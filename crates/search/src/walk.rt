@@ -40,7 +40,7 @@ fn number_of<R: Relation>(
     requires sound { Sound rule.now }
     requires code { code < 16777280 }
     requires rows { RowsFit rule.now plan.now }
-    ensures { result ≡ value (filled (meaning relation.now).rows plan.now places.now.rows) code }
+    ensures { result ≡ value (filled (R.meaning relation.now).rows plan.now places.now.rows) code }
 {
     if code < 16777216 {
         code
@@ -61,10 +61,10 @@ fn lands<R: Relation>(
     requires sound { Sound rule.now }
     requires plan { Planned rule.now plan.now }
     requires depth { depth < rule.now.row_count }
-    requires within { place places.now.rows depth < length (meaning relation.now).rows }
-    requires fitting { Fitting (meaning relation.now).rows rule.now }
-    ensures yes { result ≡ true → Lands (meaning relation.now).rows rule.now (filled (meaning relation.now).rows plan.now places.now.rows) depth (place places.now.rows depth) }
-    ensures no { Lands (meaning relation.now).rows rule.now (filled (meaning relation.now).rows plan.now places.now.rows) depth (place places.now.rows depth) → result ≡ true }
+    requires within { place places.now.rows depth < length (R.meaning relation.now).rows }
+    requires fitting { Fitting (R.meaning relation.now).rows rule.now }
+    ensures yes { result ≡ true → Lands (R.meaning relation.now).rows rule.now (filled (R.meaning relation.now).rows plan.now places.now.rows) depth (place places.now.rows depth) }
+    ensures no { Lands (R.meaning relation.now).rows rule.now (filled (R.meaning relation.now).rows plan.now places.now.rows) depth (place places.now.rows depth) → result ≡ true }
 {
     for t in 0..plan.tests[depth].count {
         let column = plan.tests[depth].columns[t];
@@ -85,7 +85,7 @@ fn split_pair<R: Relation>(
 ) -> Option<Difference>
     requires sound { Sound rule.now }
     requires rows { RowsFit rule.now plan.now }
-    ensures { MatchOption result (Joins rule.now (filled (meaning relation.now).rows plan.now places.now.rows)) (λ d. Splits rule.now (filled (meaning relation.now).rows plan.now places.now.rows) d.pair d.one d.other) }
+    ensures { MatchOption result (Joins rule.now (filled (R.meaning relation.now).rows plan.now places.now.rows)) (λ d. Splits rule.now (filled (R.meaning relation.now).rows plan.now places.now.rows) d.pair d.one d.other) }
 {
     for pair in 0..rule.pair_count {
         let one = number_of(relation, rule, plan, places, rule.pairs[pair].one);
@@ -110,10 +110,10 @@ fn walk_from<R: Relation>(
     requires sound { Sound rule.now }
     requires plan { Planned rule.now plan.now }
     requires depth { depth ≤ rule.now.row_count }
-    requires picks { Picks (meaning relation.now).rows choices.now (length (meaning relation.now).rows) }
-    requires fitting { Fitting (meaning relation.now).rows rule.now }
-    requires lands { Landed (meaning relation.now).rows rule.now plan.now places.rows depth }
-    ensures { MatchOption result (From (meaning relation.now).rows rule.now depth places.rows (Joins rule.now)) (λ s. SplitAt (meaning relation.now).rows rule.now s.places.rows s.difference.pair s.difference.one s.difference.other) }
+    requires picks { Picks (R.meaning relation.now).rows choices.now (length (R.meaning relation.now).rows) }
+    requires fitting { Fitting (R.meaning relation.now).rows rule.now }
+    requires lands { Landed (R.meaning relation.now).rows rule.now plan.now places.rows depth }
+    ensures { MatchOption result (From (R.meaning relation.now).rows rule.now depth places.rows (Joins rule.now)) (λ s. SplitAt (R.meaning relation.now).rows rule.now s.places.rows s.difference.pair s.difference.one s.difference.other) }
 {
     if depth == rule.row_count {
         return match split_pair(relation, rule, plan, &places) {
@@ -145,10 +145,10 @@ pub(crate) fn try_place<R: Relation>(
 ) -> Option<Split>
     requires sound { Sound rule.now }
     requires plan { Planned rule.now plan.now }
-    requires picks { Picks (meaning relation.now).rows choices.now (length (meaning relation.now).rows) }
+    requires picks { Picks (R.meaning relation.now).rows choices.now (length (R.meaning relation.now).rows) }
     requires m { m < choices.now.count }
-    requires fitting { Fitting (meaning relation.now).rows rule.now }
-    ensures { MatchOption result (With (meaning relation.now).rows rule.now 0 (replicate 8 0) (chosen choices.now m) (Joins rule.now)) (λ s. SplitAt (meaning relation.now).rows rule.now s.places.rows s.difference.pair s.difference.one s.difference.other) }
+    requires fitting { Fitting (R.meaning relation.now).rows rule.now }
+    ensures { MatchOption result (With (R.meaning relation.now).rows rule.now 0 (replicate 8 0) (chosen choices.now m) (Joins rule.now)) (λ s. SplitAt (R.meaning relation.now).rows rule.now s.places.rows s.difference.pair s.difference.one s.difference.other) }
 {
     let mut next = Places { rows: [0; 8] };
     next.rows[0] = row_at(choices, m);

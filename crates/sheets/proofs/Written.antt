@@ -171,9 +171,9 @@ most-left : (k : Kind) (vs : List ℕ) → LeftOf k vs → length vs ≤ 32 → 
 most-left Functional vs e h = h
 most-left Equality vs e h = let z = ap length e in omega arith
 
-pair_size : (k : Kind) (p : Term × Term) → length (pair_words k p) ≡ pair_size (kind_word k)
-pair_size Functional p = refl
-pair_size Equality p = refl
+length-pair_words : (k : Kind) (p : Term × Term) → length (pair_words k p) ≡ pair_size (kind_word k)
+length-pair_words Functional p = refl
+length-pair_words Equality p = refl
 
 pair_passes : (pattern : Pattern) (k : Kind) (p : Term × Term) → PairOf k p → Known pattern p.0 × Known pattern p.1 → All (λ w. passes (pair_want (kind_word k)) (flat_map (map word_of) pattern) w ≡ true) (pair_words k p)
 pair_passes pattern Functional p (v, e) n =
@@ -238,7 +238,7 @@ spread words width at r rest well e =
     let pair = left + 1 + get_or words left 0 in
     let d3 = (at_front words (left + 1) (get_or words left 0) B tail2 sizeB h2.2).0 in
     let h3 = at_head words pair (length r.pairs) (C ++ rest) d3 in
-    let lenC = joined_length (pair_words r.kind) (pair_size (kind_word r.kind)) r.pairs (λ p m. pair_size r.kind p) in
+    let lenC = joined_length (pair_words r.kind) (pair_size (kind_word r.kind)) r.pairs (λ p m. length-pair_words r.kind p) in
     let sizeC : length C ≡ get_or words pair 0 * pair_size (get_or words at 0) = lenC ∙ (ap (λ n. n * pair_size (kind_word r.kind)) (sym h3.1) ∙ ap (λ k. get_or words pair 0 * pair_size k) (sym h0.1)) in
     let d4 = (at_front words (pair + 1) (get_or words pair 0 * pair_size (get_or words at 0)) C rest sizeC h3.2).0 in
     record {
@@ -344,6 +344,6 @@ module _ (words : List ℕ) (width at : ℕ) (r : Rule) (rest : List ℕ) (narro
       ∙ (ap (λ k. slots (pair_in (kind_of k) words) (pair_size k) (length r.pairs) (place + 1)) s.kind_at
       ∙ (ap (λ k. slots (pair_in k words) (pair_size (kind_word r.kind)) (length r.pairs) (place + 1)) (kind_of-kind_word r.kind)
       ∙ slots_read (pair_words r.kind) (pair_in r.kind words) (pair_size (kind_word r.kind)) words r.pairs (place + 1) rest s.pair_lay
-      (λ x m. pair_size r.kind x)
+      (λ x m. length-pair_words r.kind x)
       (λ x m p ys e. pair_read words r.kind x (well.pairs_fit x m) (known_small r.pattern well.small x.0 (well.pairs_known x m).0) (known_small r.pattern well.small x.1 (well.pairs_known x m).1) p ys e))) in
       λ i. record { kind = kind-is i; pattern = pattern_is i; left = left_is i; pairs = pairs_is i }

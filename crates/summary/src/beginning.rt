@@ -24,7 +24,7 @@ fn lines_of(kind: Kind, rows: usize, left: usize, pairs: usize) -> usize
 
 // How many lines write a rule of a book.
 fn count_lines<B: Book>(book: &B, rule: usize) -> usize
-    ensures is { (it : Rule) → slice_get (meaning book.now).rules rule ≡ Some it → result ≡ rule_lines it }
+    ensures is { (it : Rule) → slice_get (B.meaning book.now).rules rule ≡ Some it → result ≡ rule_lines it }
     ensures few { result ≤ 72 }
 {
     match load(book, rule) {
@@ -42,8 +42,8 @@ pub(crate) fn push_begins<B: Book>(
     first: usize,
 ) -> Result<usize, AllocError>
     requires { first < 2 ^ 32 }
-    ensures adds { OnOk result (out.new.items ≡ out.old.items ++ begins_text what.now 1 (begins first (meaning book.now).rules)) }
-    ensures next { IfOk result (λ n. (n ≡ after first (meaning book.now).rules) × (n ≤ first + 73728)) }
+    ensures adds { OnOk result (out.new.items ≡ out.old.items ++ begins_text what.now 1 (begins first (B.meaning book.now).rules)) }
+    ensures next { IfOk result (λ n. (n ≡ after first (B.meaning book.now).rules) × (n ≤ first + 73728)) }
 {
     let mut line = first;
     for rule in 0..book.count() {

@@ -33,7 +33,7 @@ fn push_books<B: Book>(
     book: &B,
     targets: &B,
 ) -> Result<(), AllocError>
-    ensures { OnOk result (out.new.items ≡ out.old.items ++ (begins_text (codes "rule") 1 (rule_begins (meaning book.now)) ++ begins_text (codes "target") 1 (target_begins (meaning book.now) (meaning targets.now)))) }
+    ensures { OnOk result (out.new.items ≡ out.old.items ++ (begins_text (codes "rule") 1 (rule_begins (B.meaning book.now)) ++ begins_text (codes "target") 1 (target_begins (B.meaning book.now) (B.meaning targets.now)))) }
 {
     let next = push_begins(heap, out, book, "rule", 3)?;
     push_begins(heap, out, targets, "target", next + 1)?;
@@ -49,7 +49,7 @@ fn push_summary<B: Book>(
     book: &B,
     targets: &B,
 ) -> Result<(), AllocError>
-    ensures { OnOk result (out.new.items ≡ out.old.items ++ summary_text (meaning book.now) (meaning targets.now) (words_in text.now names.now)) }
+    ensures { OnOk result (out.new.items ≡ out.old.items ++ summary_text (B.meaning book.now) (B.meaning targets.now) (words_in text.now names.now)) }
 {
     push_head(
         heap,

@@ -43,7 +43,7 @@ fn merge(held: Held, spot: &Spot) -> Held
 
 // An open spot of the current rows, by a rule from where the search goes on; none after a full quiet round.
 fn look<B: Book>(held: &Held, book: &B, scratch: &mut Scratch) -> Option<Spot>
-    ensures { MatchOption result (Quiet (rows_now held.now) (meaning book.now).rules held.now.at (length (meaning book.now).rules)) (Found (rows_now held.now) (meaning book.now).rules held.now.at (length (meaning book.now).rules)) }
+    ensures { MatchOption result (Quiet (rows_now held.now) (B.meaning book.now).rules held.now.at (length (B.meaning book.now).rules)) (Found (rows_now held.now) (B.meaning book.now).rules held.now.at (length (B.meaning book.now).rules)) }
 {
     let turns = book.count();
     find_break(held, book, held.at, turns, scratch)
@@ -61,7 +61,7 @@ pub struct Ran {
 pub(crate) fn run<B: Book>(start: Held, book: &B, n: usize) -> Ran
     requires few { start.merges + groups_of start ≤ 64 }
     requires open { start.clashed ≡ false }
-    ensures { Stopped (meaning book.now).rules n start result.held result.made result.stop }
+    ensures { Stopped (B.meaning book.now).rules n start result.held result.made result.stop }
 {
     let mut scratch = Scratch::new();
     let mut held = start;

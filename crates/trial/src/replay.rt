@@ -41,7 +41,7 @@ fn call<B: Book, T: Book>(trial: &mut Trial, book: &B, request: &Request<'_, T>)
 }
 
 fn conclude<B: Book>(trial: Trial, book: &B, finish: bool) -> Outcome
-    ensures { Concluded (meaning book.now) (seen trial) finish result }
+    ensures { Concluded (B.meaning book.now) (seen trial) finish result }
 {
     if finish {
         return Outcome::Finished(trial.finish(book));

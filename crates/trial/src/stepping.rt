@@ -52,7 +52,7 @@ pub(crate) fn start_held<B: Book, T: Book>(
 
 // Why an advance is refused, the first that applies. A finish is void there.
 fn advance_fault<B: Book>(held: &Held, book: &B) -> Option<TrialFault>
-    ensures { AdvanceDue (meaning book.now) held.now result }
+    ensures { AdvanceDue (B.meaning book.now) held.now result }
 {
     if !held.begun {
         return Some(TrialFault::StillBlank);
@@ -65,7 +65,7 @@ fn advance_fault<B: Book>(held: &Held, book: &B) -> Option<TrialFault>
 
 pub(crate) fn advance_held<B: Book>(held: Held, book: &B, n: usize) -> Result<Ran, TrialFault>
     requires { held.merges + groups_of held ≤ 64 }
-    ensures { AdvancedHeld (meaning book.now) n held result }
+    ensures { AdvancedHeld (B.meaning book.now) n held result }
 {
     if let Some(fault) = advance_fault(&held, book) {
         return Err(fault);
@@ -89,7 +89,7 @@ pub struct Ended {
 
 pub(crate) fn finish_held<B: Book>(held: Held, book: &B) -> Ended
     requires { held.merges + groups_of held ≤ 64 }
-    ensures { FinishedHeld (meaning book.now) held result.held result.verdict }
+    ensures { FinishedHeld (B.meaning book.now) held result.held result.verdict }
 {
     if advance_fault(&held, book).is_some() {
         return Ended {

@@ -37,7 +37,7 @@ fn put_row<F: Told>(
     f: &F,
     row: usize,
 ) -> Result<(), Short>
-    ensures { Puts out.old (line_of text.now (row_line names.now (slice_index_or (rows_of (outcome f.now)) row []))) result out.new }
+    ensures { Puts out.old (line_of text.now (row_line names.now (slice_index_or (rows_of (F.Told.outcome f.now)) row []))) result out.new }
 {
     let mut line = [Piece::Number(0); 8];
     let mut used = 0;
@@ -78,8 +78,8 @@ fn put_rows<F: Told>(
     f: &F,
     count: usize,
 ) -> Result<(), Short>
-    requires { count ≡ length (rows_of (outcome f.now)) }
-    ensures { Puts out.old (lines_text text.now (rows_lines names.now (rows_of (outcome f.now)))) result out.new }
+    requires { count ≡ length (rows_of (F.Told.outcome f.now)) }
+    ensures { Puts out.old (lines_text text.now (rows_lines names.now (rows_of (F.Told.outcome f.now)))) result out.new }
 {
     put_count(out, Word::Rows, count)?;
     for row in 0..count {
@@ -96,7 +96,7 @@ pub fn put_target<F: Told>(
     i: usize,
     f: &F,
 ) -> Result<(), Short>
-    ensures { Puts out.old (target_text text.now names.now i (outcome f.now)) result out.new }
+    ensures { Puts out.old (target_text text.now names.now i (F.Told.outcome f.now)) result out.new }
 {
     match f.rows() {
         None => put_verdict(out, i, Word::Follows),

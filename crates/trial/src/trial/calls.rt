@@ -46,9 +46,9 @@ impl Trial {
     // Merges one open spot at a time, and tells how many merges it made and why it stopped: n are made, no open spot is
     // left, or two constants met, which the trial keeps.
     pub fn advance<B: Book>(&mut self, book: &B, n: usize) -> Result<(usize, Stop), TrialFault>
-        ensures answered { Advances (meaning book.now) n (seen self.old) (advanced result) (seen self.new) }
+        ensures answered { Advances (B.meaning book.now) n (seen self.old) (advanced result) (seen self.new) }
         ensures unchanged { Unchanged result self.old self.new }
-        ensures promised { CallPromised (meaning book.now) (Advance n) (seen self.old) (advanced result) (seen self.new) }
+        ensures promised { CallPromised (B.meaning book.now) (Advance n) (seen self.old) (advanced result) (seen self.new) }
     {
         match advance_held(self.held, book, n) {
             Ok(ran) => {
@@ -61,8 +61,8 @@ impl Trial {
 
     // Takes the trial away, brings its merging to its end, and gives the verdict.
     pub fn finish<B: Book>(self, book: &B) -> Finished
-        ensures answered { Finishes (meaning book.now) (seen self) (told result) }
-        ensures promised { FinishPromised (meaning book.now) (seen self) (told result) }
+        ensures answered { Finishes (B.meaning book.now) (seen self) (told result) }
+        ensures promised { FinishPromised (B.meaning book.now) (seen self) (told result) }
     {
         let Trial { held } = self;
         let ended = finish_held(held, book);

@@ -7,7 +7,7 @@ pub loop-k-preserved : goal.loop-k-preserved
 loop-k-preserved g c = λ it e.
     step left_text it.left c.loop-k.k c.left.result _ _ _
     (c.left.ensures ∙ in_left (g.B.Book.meaning c.args.book.now).rules c.args.rule c.loop-k.k it e)
-    (c.loop-k.invariant it e) c.in-ok-push-left.ensures
+    (c.loop-k.invariant it e) c.in_ok-push_left.ensures
 
 pub returns : goal.returns
 returns g c = λ it e.

@@ -7,7 +7,7 @@ pub loop-k-preserved : goal.loop-k-preserved
 loop-k-preserved g c = λ it e.
     step right_text it.pairs c.loop-k.k c.pair.result _ _ _
     (c.pair.ensures ∙ in_pairs (g.B.Book.meaning c.args.book.now).rules c.args.rule c.loop-k.k it e)
-    (c.loop-k.invariant it e) c.in-ok-push-right.ensures
+    (c.loop-k.invariant it e) c.in_ok-push_right.ensures
 
 pub returns : goal.returns
 returns g c = λ it e.

@@ -9,7 +9,7 @@ unfolding rule_text
 returns g c = λ it e k.
     let start = string_bytes c.args.out.now in
     four_parts start _ _ _ _ (codes "rule " ++ (decimal c.args.rule ++ codes ": ")) (kind_text it.kind) _ (lists_text it.kind it)
-    (c.in-ok-push-text.ensures ∙ ap (λ (x : List ℕ). start ++ x) (c.as-str.ensures.value ∙ c.in-ok-head.ensures.ok))
-    (c.in-ok-push-text-2.ensures ∙ ap (λ (x : List ℕ). string_bytes c.push-text.new.out ++ x) (c.kind-text.ensures ∙ ap kind_text k))
-    (c.in-ok-push-rows.ensures it e)
-    (c.in-ok-push-lists.ensures it e ∙ ap (λ (x : Kind). string_bytes c.push-rows.new.out ++ lists_text x it) k)
+    (c.in_ok-push_text.ensures ∙ ap (λ (x : List ℕ). start ++ x) (c.as_str.ensures.value ∙ c.in_ok-head.ensures.ok))
+    (c.in_ok-push_text-2.ensures ∙ ap (λ (x : List ℕ). string_bytes c.push_text.new.out ++ x) (c.kind_text.ensures ∙ ap kind_text k))
+    (c.in_ok-push_rows.ensures it e)
+    (c.in_ok-push_lists.ensures it e ∙ ap (λ (x : Kind). string_bytes c.push_rows.new.out ++ lists_text x it) k)

@@ -7,7 +7,7 @@ pub loop-column-preserved : goal.loop-column-preserved
 loop-column-preserved g c = λ terms e.
     step term_text terms c.loop-column.column c.term.result _ _ _
     (c.term.ensures ∙ in_row (g.B.Book.meaning c.args.book.now).rules c.args.rule c.args.row c.loop-column.column terms e)
-    (c.loop-column.invariant terms e) c.in-ok-push-term.ensures
+    (c.loop-column.invariant terms e) c.in_ok-push_term.ensures
 
 pub returns : goal.returns
 returns g c = λ terms e.

@@ -11,39 +11,39 @@ use Rattle.pieces.proofs.line.put_line.Goals as goal
 abbrev any : Piece
 any = Fixed word.Targets
 
-pub returns-in-err-put-piece : goal.returns-in-err-put-piece
-returns-in-err-put-piece c =
+pub returns-in_err-put_piece : goal.returns-in_err-put_piece
+returns-in_err-put_piece c =
     let text = c.args.text.now in
     let ps = c.args.pieces.now in
     let some : 0 < length ps = omega arith in
-    as_puts (sym (at_drop_more (line_of text) ps 0 any some)) (exit_puts _ c.from-residual.ensures.1 _ c.in-err-put-piece.ensures)
+    as_puts (sym (at_drop_more (line_of text) ps 0 any some)) (exit_puts _ c.from_residual.ensures.1 _ c.in_err-put_piece.ensures)
 
-pub returns-in-err-put-space : goal.returns-in-err-put-space
-returns-in-err-put-space c =
+pub returns-in_err-put_space : goal.returns-in_err-put_space
+returns-in_err-put_space c =
     let text = c.args.text.now in
     let ps = c.args.pieces.now in
     let some : 0 < length ps = omega arith in
     let here : c.loop-i.i < length ps = omega arith in
-    as_puts (sym (at_drop_more (line_of text) ps 0 any some)) (then-puts _ c.in-ok-put-piece.ensures (c.loop-i.invariant _ _ (as_puts (sym (at_drop_more (after text) ps c.loop-i.i any here)) (exit_puts _ c.from-residual-in-err-put-space.ensures.1 _ c.in-err-put-space.ensures))))
+    as_puts (sym (at_drop_more (line_of text) ps 0 any some)) (then-puts _ c.in_ok-put_piece.ensures (c.loop-i.invariant _ _ (as_puts (sym (at_drop_more (after text) ps c.loop-i.i any here)) (exit_puts _ c.from_residual-in_err-put_space.ensures.1 _ c.in_err-put_space.ensures))))
 
-pub returns-in-err-put-piece-2 : goal.returns-in-err-put-piece-2
-returns-in-err-put-piece-2 c =
+pub returns-in_err-put_piece-2 : goal.returns-in_err-put_piece-2
+returns-in_err-put_piece-2 c =
     let text = c.args.text.now in
     let ps = c.args.pieces.now in
     let some : 0 < length ps = omega arith in
     let here : c.loop-i.i < length ps = omega arith in
-    as_puts (sym (at_drop_more (line_of text) ps 0 any some)) (then-puts _ c.in-ok-put-piece.ensures (c.loop-i.invariant _ _ (as_puts (sym (at_drop_more (after text) ps c.loop-i.i any here)) (then-puts _ c.in-ok-put-space.ensures (exit_puts _ c.from-residual-in-err-put-piece-2.ensures.1 _ c.in-err-put-piece-2.ensures)))))
+    as_puts (sym (at_drop_more (line_of text) ps 0 any some)) (then-puts _ c.in_ok-put_piece.ensures (c.loop-i.invariant _ _ (as_puts (sym (at_drop_more (after text) ps c.loop-i.i any here)) (then-puts _ c.in_ok-put_space.ensures (exit_puts _ c.from_residual-in_err-put_piece-2.ensures.1 _ c.in_err-put_piece-2.ensures)))))
 
 pub loop-i-preserved : goal.loop-i-preserved
 loop-i-preserved c =
     let text = c.args.text.now in
     let ps = c.args.pieces.now in
     let here : c.loop-i.i < length ps = omega arith in
-    λ r b p. c.loop-i.invariant r b (as_puts (sym (at_drop_more (after text) ps c.loop-i.i any here)) (then-puts _ c.in-ok-put-space.ensures (then-puts _ c.in-ok-put-piece-2.ensures p)))
+    λ r b p. c.loop-i.invariant r b (as_puts (sym (at_drop_more (after text) ps c.loop-i.i any here)) (then-puts _ c.in_ok-put_space.ensures (then-puts _ c.in_ok-put_piece-2.ensures p)))
 
 pub returns : goal.returns
 returns c =
     let text = c.args.text.now in
     let ps = c.args.pieces.now in
     let some : 0 < length ps = omega arith in
-    as_puts (sym (at_drop_more (line_of text) ps 0 any some)) (then-puts _ c.in-ok-put-piece.ensures (c.loop-i.invariant _ _ (as_puts (sym (at_drop_all (after text) ps c.loop-i.i (omega arith))) c.end-line-2.ensures)))
+    as_puts (sym (at_drop_more (line_of text) ps 0 any some)) (then-puts _ c.in_ok-put_piece.ensures (c.loop-i.invariant _ _ (as_puts (sym (at_drop_all (after text) ps c.loop-i.i (omega arith))) c.end_line-2.ensures)))

@@ -3,4 +3,4 @@ use Rattle.pieces.proofs.Steps.{same_refl}
 use Rattle.pieces.proofs.put.put_word.Goals as goal
 
 pub returns : goal.returns
-returns c = record { same = record { lent = refl; long = c.copy-at.auto.places }; cases = record { fits = omega arith; used = refl; holds = c.copy-at.ensures } }
+returns c = record { same = record { lent = refl; long = c.copy_at.auto.places }; cases = record { fits = omega arith; used = refl; holds = c.copy_at.ensures } }

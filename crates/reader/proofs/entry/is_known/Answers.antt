@@ -13,5 +13,5 @@ returns c =
     let l = c.args.vars.now in
     let many = sym (length-map (items l) (word_in t) ∙ length-items l c.requires) in
     let is = c.find.ensures.is in
-    let var : is_variable (part t c.args.w) ≡ true = ap is_variable (sym c.part-of.ensures) ∙ sym c.if-not-is-variable.ensures in
+    let var : is_variable (part t c.args.w) ≡ true = ap is_variable (sym c.part_of.ensures) ∙ sym c.if-not-is_variable.ensures in
     (λ i. ltb (is i) (many i)) ∙ sym (ap (λ b. not b || seen_in (words_in t (items l)) (word_in t c.args.w)) var)

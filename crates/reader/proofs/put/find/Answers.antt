@@ -10,8 +10,8 @@ returns c =
     let t = c.args.text.now in
     let z : l.used - 0 ≡ l.used = omega arith in
     let long = length-items l c.requires in
-    let is = rw z at c.number-in.ensures.is in
-    let bound = rw z at c.number-in.ensures.bound in
+    let is = rw z at c.number_in.ensures.is in
+    let bound = rw z at c.number_in.ensures.bound in
     record {
       is = is ∙ ap (λ xs. number_in xs (part t c.args.w)) (sym (bytes_words_in t (items l)));
       bound = omega arith;

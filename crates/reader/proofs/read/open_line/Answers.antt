@@ -12,16 +12,16 @@ returns-then-at-text c =
     let at = c.args.at in
     λ rooms m d ds. ap (λ bs. read_lines rooms at.line (d ∷ ds) m (lines_at at.from bs)) (drop_all at.from t (omega arith))
 
-pub returns-then-not-line-clean : goal.returns-then-not-line-clean
-returns-then-not-line-clean c =
+pub returns-then-not-line_clean : goal.returns-then-not-line_clean
+returns-then-not-line_clean c =
     let t = c.args.text.now in
     let at = c.args.at in
-    let end = c.line-end-end.result in
-    λ rooms m d ds. line_dirty rooms at.line m d ds t at.from end (line_next t at.from end (omega arith) c.line-end-end.ensures.is) (sym c.line-clean.ensures ∙ c.if-not-line-clean.true)
+    let end = c.line_end-end.result in
+    λ rooms m d ds. line_dirty rooms at.line m d ds t at.from end (line_next t at.from end (omega arith) c.line_end-end.ensures.is) (sym c.line_clean.ensures ∙ c.if-not-line_clean.true)
 
 pub returns : goal.returns
 returns c =
     let t = c.args.text.now in
     let at = c.args.at in
-    let end = c.line-end-end.result in
-    (omega arith, c.line-end-end.ensures.bound (omega arith), sym c.line-clean.ensures ∙ c.if-not-line-clean.false, line_next t at.from end (omega arith) c.line-end-end.ensures.is)
+    let end = c.line_end-end.result in
+    (omega arith, c.line_end-end.ensures.bound (omega arith), sym c.line_clean.ensures ∙ c.if-not-line_clean.false, line_next t at.from end (omega arith) c.line_end-end.ensures.is)

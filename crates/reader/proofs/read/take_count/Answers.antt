@@ -10,14 +10,14 @@ returns-in-Ok c =
     let t = c.args.text.now in
     let at = c.args.at.now in
     let m = held t (desk_of c.args.rules.now c.args.targets.now c.args.names.now c.args.work.now) in
-    let end = c.in-ok-end.end in
-    let line = c.in-ok-end.ensures in
+    let end = c.in_ok-end.end in
+    let line = c.in_ok-end.ensures in
     let told = c.in-Ok.ensures in
     record {
       stands = record { inside = omega arith; numbered = omega arith };
       good = told.good;
       same = told.same;
-      takes = λ rooms e ds. line_taken rooms at.line m (count c.args.counting) ds t at.from end line.3 line.2 (after_count c.args.counting c.in-Ok.n) (held t (desk_of c.count-words.new.rules c.count-words.new.targets c.count-words.new.names c.count-words.new.work)) (ap (λ r. words_line r m (line_words t at.from end) (count c.args.counting)) e ∙ told.cases);
+      takes = λ rooms e ds. line_taken rooms at.line m (count c.args.counting) ds t at.from end line.3 line.2 (after_count c.args.counting c.in-Ok.n) (held t (desk_of c.count_words.new.rules c.count_words.new.targets c.count_words.new.names c.count_words.new.work)) (ap (λ r. words_line r m (line_words t at.from end) (count c.args.counting)) e ∙ told.cases);
     }
 
 pub returns-in-Err : goal.returns-in-Err
@@ -25,8 +25,8 @@ returns-in-Err c =
     let t = c.args.text.now in
     let at = c.args.at.now in
     let m = held t (desk_of c.args.rules.now c.args.targets.now c.args.names.now c.args.work.now) in
-    let end = c.in-ok-end.end in
-    let line = c.in-ok-end.ensures in
+    let end = c.in_ok-end.end in
+    let line = c.in_ok-end.ensures in
     let told = c.in-Err.ensures in
     record {
       stands = c.requires.stands;

@@ -9,10 +9,10 @@ pub returns-then-at-text : goal.returns-then-at-text
 returns-then-at-text c =
     let t = c.args.text.now in
     let rooms = rooms_of (desk_of c.args.rules.now c.args.targets.now c.args.names.now c.args.work.now) in
-    let a = c.in-ok-take-count.ensures in
-    let b = c.in-ok-take-rules.ensures in
-    let d = c.in-ok-take-rules-2.ensures in
-    let last = c.take-rules-2.new in
+    let a = c.in_ok-take_count.ensures in
+    let b = c.in_ok-take_rules.ensures in
+    let d = c.in_ok-take_rules-2.ensures in
+    let last = c.take_rules-2.new in
     let ab = sames_trans a.same b.same in
     record {
       good = d.good;
@@ -24,10 +24,10 @@ pub returns : goal.returns
 returns c =
     let t = c.args.text.now in
     let rooms = rooms_of (desk_of c.args.rules.now c.args.targets.now c.args.names.now c.args.work.now) in
-    let a = c.in-ok-take-count.ensures in
-    let b = c.in-ok-take-rules.ensures in
-    let d = c.in-ok-take-rules-2.ensures in
-    let last = c.take-rules-2.new in
+    let a = c.in_ok-take_count.ensures in
+    let b = c.in_ok-take_rules.ensures in
+    let d = c.in_ok-take_rules-2.ensures in
+    let last = c.take_rules-2.new in
     let ab = sames_trans a.same b.same in
     record {
       good = d.good;

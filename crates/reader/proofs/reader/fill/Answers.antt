@@ -12,11 +12,11 @@ pub returns-in-Ok : goal.returns-in-Ok
 returns-in-Ok c =
     let t = c.args.text.now in
     let n = lent_to c.args.rules.now c.args.targets.now c.args.names.now in
-    let d = desk_of c.take-text.new.rules c.take-text.new.targets c.take-text.new.names c.take-text.new.work in
+    let d = desk_of c.take_text.new.rules c.take_text.new.targets c.take_text.new.names c.take_text.new.work in
     let told = c.in-Ok.ensures in
-    let one = c.blank-rest.ensures in
-    let two = c.blank-rest-in-Ok.ensures in
-    let three = c.blank-rest-in-Ok-2.ensures in
+    let one = c.blank_rest.ensures in
+    let two = c.blank_rest-in-Ok.ensures in
+    let three = c.blank_rest-in-Ok-2.ensures in
     let back = names_back t (items d.names) told.good.names.inside in
     record {
       rules = record { lent = one.same.lent ∙ told.same.rules.lent; size = one.same.size ∙ told.same.rules.size };
@@ -38,11 +38,11 @@ returns-in-Ok c =
 pub returns-in-Err : goal.returns-in-Err
 returns-in-Err c =
     let n = lent_to c.args.rules.now c.args.targets.now c.args.names.now in
-    let d = desk_of c.take-text.new.rules c.take-text.new.targets c.take-text.new.names c.take-text.new.work in
+    let d = desk_of c.take_text.new.rules c.take_text.new.targets c.take_text.new.names c.take_text.new.work in
     let told = c.in-Err.ensures in
-    let one = c.blank-rest-in-Err.ensures in
-    let two = c.blank-rest-in-Err-2.ensures in
-    let three = c.blank-rest-in-Err-3.ensures in
+    let one = c.blank_rest-in-Err.ensures in
+    let two = c.blank_rest-in-Err-2.ensures in
+    let three = c.blank_rest-in-Err-3.ensures in
     record {
       rules = record { lent = one.same.lent ∙ told.same.rules.lent; size = one.same.size ∙ told.same.rules.size };
       targets = record { lent = two.same.lent ∙ told.same.targets.lent; size = two.same.size ∙ told.same.targets.size };

@@ -11,9 +11,9 @@ returns-then-text-gt65536 c =
       reads = (
         cond-false (leb (length t) 65536) _ _ (lt-leb (length t) 65536 (omega arith)),
         record {
-          rules = all_blank c.args.rules.now (length c.args.rules.now) 0 _ refl c.blank-from.ensures;
-          targets = all_blank c.args.targets.now (length c.args.targets.now) 0 _ refl c.blank-from-then-text-gt65536.ensures;
-          names = all_blank c.args.names.now (length c.args.names.now) no_name _ refl c.blank-from-then-text-gt65536-2.ensures;
+          rules = all_blank c.args.rules.now (length c.args.rules.now) 0 _ refl c.blank_from.ensures;
+          targets = all_blank c.args.targets.now (length c.args.targets.now) 0 _ refl c.blank_from-then-text-gt65536.ensures;
+          names = all_blank c.args.names.now (length c.args.names.now) no_name _ refl c.blank_from-then-text-gt65536-2.ensures;
         },
       );
     }

@@ -9,8 +9,8 @@ use Rattle.report.proofs.answer.answer.Goals as goal
 pub returns : goal.returns
 returns c =
     let text = c.args.text.now in
-    let out = c.put-answer-size.new.output in
-    let rest = drop (length out) c.in-ok-output.output.items in
-    let long : length out ≡ c.in-ok-output.output.len = search rules in
-    let all : take c.in-ok-output.output.len (out ++ rest) ≡ out = ap (λ k. take k (out ++ rest)) (sym long) ∙ take-append_seam out rest in
-    subst (Printed (read_text (rooms_in most) text) text most) (sym (c.truncate.ensures.items ∙ ap (take c.put-answer-size.result) all)) c.put-answer-size.ensures
+    let out = c.put_answer-size.new.output in
+    let rest = drop (length out) c.in_ok-output.output.items in
+    let long : length out ≡ c.in_ok-output.output.len = search rules in
+    let all : take c.in_ok-output.output.len (out ++ rest) ≡ out = ap (λ k. take k (out ++ rest)) (sym long) ∙ take-append_seam out rest in
+    subst (Printed (read_text (rooms_in most) text) text most) (sym (c.truncate.ensures.items ∙ ap (take c.put_answer-size.result) all)) c.put_answer-size.ensures

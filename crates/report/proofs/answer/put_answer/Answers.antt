@@ -21,4 +21,4 @@ returns-in-Err c =
     let told = subst (λ (l : Lent). ToldOf (read_text (rooms_in l) text) text l (length c.args.output.now) (Err c.in-Err.fault) c.report.new.rules c.report.new.targets c.report.new.names c.report.new.output) c.requires.lent c.in-Err.ensures in
     let long : enough ≤ length c.args.output.now = omega (arith, enough-is, c.requires.output) in
     let p = printed_err (read_text (rooms_in most) text) text most (length c.args.output.now) c.in-Err.fault c.report.new.rules c.report.new.targets c.report.new.names c.report.new.output refl long told in
-    subst (Printed (read_text (rooms_in most) text) text most) (sym (c.put-refusal.ensures ∙ ap refusal_text c.refusal.ensures)) p
+    subst (Printed (read_text (rooms_in most) text) text most) (sym (c.put_refusal.ensures ∙ ap refusal_text c.refusal.ensures)) p

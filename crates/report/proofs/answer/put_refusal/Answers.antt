@@ -3,7 +3,7 @@ use Rattle.report.proofs.Printing.{line_fits, line_is}
 use Rattle.report.proofs.answer.put_refusal.Goals as goal
 
 pub returns-in-Ok : goal.returns-in-Ok
-returns-in-Ok c = line_is c.args.refusal (length c.args.output.now) c.in-Ok.size c.write-refusal.new.output c.in-Ok.ensures
+returns-in-Ok c = line_is c.args.refusal (length c.args.output.now) c.in-Ok.size c.write_refusal.new.output c.in-Ok.ensures
 
 pub returns-in-Err : goal.returns-in-Err
 returns-in-Err c =

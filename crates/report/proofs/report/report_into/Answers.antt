@@ -9,18 +9,18 @@ use Rattle.report.proofs.report.report_into.Goals as goal
 pub returns : goal.returns
 returns c =
     let a = c.args in
-    let told = c.read-and-put-put.ensures in
-    let rs = c.read-and-put-put.new.rules in
-    let ts = c.read-and-put-put.new.targets in
-    let ns = c.read-and-put-put.new.names in
+    let told = c.read_and_put-put.ensures in
+    let rs = c.read_and_put-put.new.rules in
+    let ts = c.read_and_put-put.new.targets in
+    let ns = c.read_and_put-put.new.names in
     let l = lent a.rules.now a.targets.now a.names.now in
     let x : length rs ≡ l.rules = search rules in
     let y : length ts ≡ l.targets = search rules in
     let z : length ns ≡ l.names = search rules in
-    let whole = closes_whole (read_text (rooms_in l) a.text.now) a.text.now l a.out.now c.read-and-put-put.new.out c.read-and-put-put.result rs ts ns
-    _ _ _ _ _ c.requires told.same x y z told.reads c.close.ensures.answer c.clear-after.ensures.rules c.clear-after.ensures.targets c.clear-after.ensures.names c.close.ensures.places in
+    let whole = closes_whole (read_text (rooms_in l) a.text.now) a.text.now l a.out.now c.read_and_put-put.new.out c.read_and_put-put.result rs ts ns
+    _ _ _ _ _ c.requires told.same x y z told.reads c.close.ensures.answer c.clear_after.ensures.rules c.clear_after.ensures.targets c.clear_after.ensures.names c.close.ensures.places in
     record {
       same = same_trans told.same c.close.ensures.same;
-      tells = tells-of c.layout-stands.ensures.written c.layout-stands.ensures.passing l a.text.now (read_text (rooms_in l) a.text.now) refl
+      tells = tells-of c.layout_stands.ensures.written c.layout_stands.ensures.passing l a.text.now (read_text (rooms_in l) a.text.now) refl
           _ _ _ _ _ _ whole;
     }

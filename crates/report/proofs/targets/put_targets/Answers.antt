@@ -47,15 +47,15 @@ returns-in-Err g c =
 pub loop-i-init : goal.loop-i-init
 loop-i-init g c =
     let put = c.in-Ok.ensures in
-    let here = c.put-count.new.out in
+    let here = c.put_count.new.out in
     (same_refl here, λ w. ([], refl, tt, put-none here (put-within put.same put.cases)))
 
-pub returns-in-err-judged : goal.returns-in-err-judged
-returns-in-err-judged g c =
+pub returns-in_err-judged : goal.returns-in_err-judged
+returns-in_err-judged g c =
     let ts = g.T.Book.meaning c.args.targets.now in
     let first = c.in-Ok.ensures in
     let h : c.loop-i.i < length ts.rules = omega (arith, c.count-count.ensures) in
-    record { same = same_trans first.same c.loop-i.invariant.0; fills = λ w. absurd (c.in-err-judged.ensures w h) }
+    record { same = same_trans first.same c.loop-i.invariant.0; fills = λ w. absurd (c.in_err-judged.ensures w h) }
 
 pub loop-i-preserved : goal.loop-i-preserved
 loop-i-preserved g c =
@@ -64,8 +64,8 @@ loop-i-preserved g c =
     let text = c.args.text.now in
     let names = c.args.names.now in
     let i = c.loop-i.i in
-    let o = outcome_of (told c.in-ok-judged.judged.finished) in
-    let put = c.in-Ok-put-target.ensures in
+    let o = outcome_of (told c.in_ok-judged.judged.finished) in
+    let put = c.in-Ok-put_target.ensures in
     let same = c.loop-i.invariant.0 in (
       same_trans same put.same,
       λ w.
@@ -76,22 +76,22 @@ loop-i-preserved g c =
           ap whole (texts_append text names 1 (i + 1) os (o ∷ []) (omega arith)) ∙ whole-push (target_texts text names 1 os) (target_text text names (i + 1) o) in (
             os ++ o ∷ [],
             omega (arith, length-append os (o ∷ [])),
-            due-append b ts 0 i os (o ∷ []) (omega arith) so_far.2 (c.in-ok-judged.ensures, tt),
+            due-append b ts 0 i os (o ∷ []) (omega arith) so_far.2 (c.in_ok-judged.ensures, tt),
             as_put (sym texts) (then-put same so_far.3 put.cases),
           )),
     )
 
-pub returns-in-Err-put-target : goal.returns-in-Err-put-target
-returns-in-Err-put-target g c =
+pub returns-in-Err-put_target : goal.returns-in-Err-put_target
+returns-in-Err-put_target g c =
     let b = g.B.Book.meaning c.args.book.now in
     let ts = g.T.Book.meaning c.args.targets.now in
     let text = c.args.text.now in
     let names = c.args.names.now in
     let many = length ts.rules in
     let i = c.loop-i.i in
-    let o = outcome_of (told c.in-ok-judged.judged.finished) in
+    let o = outcome_of (told c.in_ok-judged.judged.finished) in
     let first = c.in-Ok.ensures in
-    let put = c.in-Err-put-target.ensures in
+    let put = c.in-Err-put_target.ensures in
     let h : i < many = omega (arith, c.count-count.ensures) in
     let same = c.loop-i.invariant.0 in
     record {
@@ -108,7 +108,7 @@ returns-in-Err-put-target g c =
           let more = length-append line (whole before) in
           record {
             outcomes = os ++ o ∷ rest.0;
-            due = record { long = all; each = due-append b ts 0 i os (o ∷ rest.0) (omega arith) so_far.2 (c.in-ok-judged.ensures, rest.2) };
+            due = record { long = all; each = due-append b ts 0 i os (o ∷ rest.0) (omega arith) so_far.2 (c.in_ok-judged.ensures, rest.2) };
             fills = record {
               same = same_trans first.same (same_trans same put.same);
               cases = (

@@ -12,9 +12,9 @@ loop-row-preserved c =
     let row = c.loop-row.row in
     let once = set rows row (get_or rule.rows row no_codes) in (
       simp length-set c.loop-row.invariant.0,
-      (λ i h. get_or-set_other once (rule.row_count + row) i c.copied-row.result no_codes (λ e. omega arith) ∙ filled_more (λ i x. x ≡ get_or rule.rows i no_codes) no_codes rows row (get_or rule.rows row no_codes) (omega (arith, c.loop-row.invariant.0, c.requires.rows)) refl c.loop-row.invariant.1 i h),
-      filled-after (λ i x. (j : ℕ) → j < rule.width → term_of (get_or x.codes j 0) ≡ copied (meant rule).left (term_of (code_at rule i j))) no_codes rule.row_count once row c.copied-row.result
-          (simp length-set (omega (arith, c.loop-row.invariant.0, c.requires.rows))) c.copied-row.ensures
+      (λ i h. get_or-set_other once (rule.row_count + row) i c.copied_row.result no_codes (λ e. omega arith) ∙ filled_more (λ i x. x ≡ get_or rule.rows i no_codes) no_codes rows row (get_or rule.rows row no_codes) (omega (arith, c.loop-row.invariant.0, c.requires.rows)) refl c.loop-row.invariant.1 i h),
+      filled-after (λ i x. (j : ℕ) → j < rule.width → term_of (get_or x.codes j 0) ≡ copied (meant rule).left (term_of (code_at rule i j))) no_codes rule.row_count once row c.copied_row.result
+          (simp length-set (omega (arith, c.loop-row.invariant.0, c.requires.rows))) c.copied_row.ensures
           (λ i h. subst (λ x. (j : ℕ) → j < rule.width → term_of (get_or x.codes j 0) ≡ copied (meant rule).left (term_of (code_at rule i j))) (sym (get_or-set_other rows row (rule.row_count + i) (get_or rule.rows row no_codes) no_codes (λ e. omega arith))) (c.loop-row.invariant.2 i h)),
     )
 

@@ -5,8 +5,8 @@ use Rattle.rules.proofs.Copies.{sized}
 use Rattle.rules.proofs.Forms.{form_doubled}
 use Rattle.rules.proofs.doubling.load_doubled.Goals as goal
 
-pub doubled-of-requires : goal.doubled-of-requires
-doubled-of-requires g c = record { of = c.in-Some.ensures.of_book; sized = sized _ c.in-Some.ensures.of_book }
+pub doubled_of-requires : goal.doubled_of-requires
+doubled_of-requires g c = record { of = c.in-Some.ensures.of_book; sized = sized _ c.in-Some.ensures.of_book }
 
 pub returns-in-Some : goal.returns-in-Some
 returns-in-Some g c =
@@ -16,7 +16,7 @@ returns-in-Some g c =
     record {
       rule = meant l;
       there = loaded.is;
-      is = c.doubled-of.ensures.means;
-      width = c.doubled-of.ensures.width ∙ loaded.width;
-      form = subst (Form book.width) (sym c.doubled-of.ensures.means) (form_doubled book.width (meant l) (g.B.Book.well c.args.book.now).small_width (subst (λ w. WellFormed w (meant l)) loaded.width loaded.of_book.fits));
+      is = c.doubled_of.ensures.means;
+      width = c.doubled_of.ensures.width ∙ loaded.width;
+      form = subst (Form book.width) (sym c.doubled_of.ensures.means) (form_doubled book.width (meant l) (g.B.Book.well c.args.book.now).small_width (subst (λ w. WellFormed w (meant l)) loaded.width loaded.of_book.fits));
     }

@@ -2,11 +2,11 @@ use Rattle.std.proofs.Common.{◌<◌, [], length, get_or, sym, ap, ◌∙◌, s
 use Rattle.search.proofs.Picked.{chosen-some}
 use Rattle.search.proofs.choices.is_picked.Goals as goal
 
-pub same-row-requires : goal.same-row-requires
-same-row-requires g c = record {
+pub same_row-requires : goal.same_row-requires
+same_row-requires g c = record {
   a = subst (λ x. x < length (g.R.Relation.meaning c.args.relation.now).rows) (chosen-some c.args.choices.now c.loop-m.m c.requires.some) (c.requires.picks.within c.loop-m.m c.loop-m-test.true);
   b = c.requires.row;
 }
 
-pub returns-then-same-row : goal.returns-then-same-row
-returns-then-same-row g c = λ _. (c.loop-m.m, c.loop-m-test.true, ap (λ x. get_or (g.R.Relation.meaning c.args.relation.now).rows x []) (chosen-some c.args.choices.now c.loop-m.m c.requires.some) ∙ c.same-row.ensures c.if-same-row.true)
+pub returns-then-same_row : goal.returns-then-same_row
+returns-then-same_row g c = λ _. (c.loop-m.m, c.loop-m-test.true, ap (λ x. get_or (g.R.Relation.meaning c.args.relation.now).rows x []) (chosen-some c.args.choices.now c.loop-m.m c.requires.some) ∙ c.same_row.ensures c.if-same_row.true)

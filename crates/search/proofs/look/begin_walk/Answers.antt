@@ -19,7 +19,7 @@ returns g c =
         sound = c.requires.sound;
         equality = c.requires.kind;
         same = refl;
-        planned = c.plan-of-plan.ensures;
+        planned = c.plan_of-plan.ensures;
         fitting = λ k h. fitting relation.width relation.rows (g.R.Relation.even c.args.relation.now) k h ∙ sym c.width.ensures ∙ c.if-width-form.false;
       },
     )

@@ -11,7 +11,7 @@ pub returns-in-Some : goal.returns-in-Some
 returns-in-Some g c =
     let rel = (g.R.Relation.meaning c.args.relation.now).rows in
     let ready = c.requires.tried.ready in
-    let spot = c.spot-of.ensures in (
-      subst (λ x. Break rel (meant x) c.spot-of.result) ready.same (break_split rel c.args.look.now.rule ready.equality c.spot-of.result c.in-Some.split.places.rows _ _ _ spot.pair spot.one spot.other spot.here spot.rest c.in-Some.ensures),
+    let spot = c.spot_of.ensures in (
+      subst (λ x. Break rel (meant x) c.spot_of.result) ready.same (break_split rel c.args.look.now.rule ready.equality c.spot_of.result c.in-Some.split.places.rows _ _ _ spot.pair spot.one spot.other spot.here spot.rest c.in-Some.ensures),
       spot.rule,
     )

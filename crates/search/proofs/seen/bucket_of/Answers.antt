@@ -7,7 +7,7 @@ pub loop-k-init : goal.loop-k-init
 loop-k-init g c = (omega arith, refl)
 
 pub loop-k-preserved : goal.loop-k-preserved
-loop-k-preserved g c = (c.mixed-hash.type-inv, hash_more (g.R.Relation.meaning c.args.relation.now).rows c.args.rule.now c.args.plan.now c.args.placing.now.rows _ _ _ _ c.loop-k.invariant.1 c.read.ensures c.mixed-hash.ensures)
+loop-k-preserved g c = (c.mixed-hash.type_inv, hash_more (g.R.Relation.meaning c.args.relation.now).rows c.args.rule.now c.args.plan.now c.args.placing.now.rows _ _ _ _ c.loop-k.invariant.1 c.read.ensures c.mixed-hash.ensures)
 
 pub returns : goal.returns
 returns g c = record {

@@ -17,5 +17,5 @@ pub returns : goal.returns
 returns c =
     let place = c.args.at + 2 + c.args.row * c.args.width in
     rw (slots_nth (slots (term_in c.args.words.now) 1 c.args.width) c.args.width (get_or c.args.words.now (c.args.at + 1) 0) (c.args.at + 2) c.args.row place (omega arith) (omega arith))
-    (rw c.term-of.ensures
+    (rw c.term_of.ensures
     (sym (slots_nth (term_in c.args.words.now) 1 c.args.width place c.args.column (place + c.args.column) (omega arith) (omega arith))))

@@ -6,4 +6,4 @@ pub returns : goal.returns
 returns c =
     let n = lent c.args.rules.now c.args.targets.now c.args.names.now in
     let reads = c.read.ensures.reads in
-    record { reads = reads; tells = telling n c.args.text.now c.layout-stands.ensures.written c.read.result c.read.new.rules c.read.new.targets c.read.new.names reads }
+    record { reads = reads; tells = telling n c.args.text.now c.layout_stands.ensures.written c.read.result c.read.new.rules c.read.new.targets c.read.new.names reads }

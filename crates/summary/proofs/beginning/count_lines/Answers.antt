@@ -9,11 +9,11 @@ returns-in-None g c = record {
   few = omega arith;
 }
 
-pub lines-of-requires : goal.lines-of-requires
-lines-of-requires g c = let s = sized c.in-Some.it c.in-Some.ensures.of_book in (s.rows, s.lefts, s.pairs)
+pub lines_of-requires : goal.lines_of-requires
+lines_of-requires g c = let s = sized c.in-Some.it c.in-Some.ensures.of_book in (s.rows, s.lefts, s.pairs)
 
 pub returns-in-Some : goal.returns-in-Some
 returns-in-Some g c = record {
-  is = lines_there (g.B.Book.meaning c.args.book.now) c.args.rule c.in-Some.it _ c.in-Some.ensures c.lines-of.ensures.is;
-  few = c.lines-of.ensures.few;
+  is = lines_there (g.B.Book.meaning c.args.book.now) c.args.rule c.in-Some.it _ c.in-Some.ensures c.lines_of.ensures.is;
+  few = c.lines_of.ensures.few;
 }

@@ -8,6 +8,6 @@ unfolding name_text
 returns c =
     let start = vec_items c.args.out.now in
     three_parts start _ _ _ (codes "constant " ++ (decimal c.args.i ++ codes " ")) _ (codes "\n")
-    (c.in-ok-push-bytes.ensures ∙ ap (λ (x : List ℕ). start ++ x) (c.as-bytes.ensures.value ∙ c.in-ok-head.ensures.ok))
-    (c.in-ok-push-bytes-2.ensures ∙ ap (λ (x : List ℕ). vec_items c.push-bytes.new.out ++ x) c.part-of.ensures)
-    c.in-ok-push-bytes-3.ensures
+    (c.in_ok-push_bytes.ensures ∙ ap (λ (x : List ℕ). start ++ x) (c.as_bytes.ensures.value ∙ c.in_ok-head.ensures.ok))
+    (c.in_ok-push_bytes-2.ensures ∙ ap (λ (x : List ℕ). vec_items c.push_bytes.new.out ++ x) c.part_of.ensures)
+    c.in_ok-push_bytes-3.ensures

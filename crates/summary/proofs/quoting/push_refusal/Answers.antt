@@ -2,14 +2,14 @@ use Rattle.std.proofs.Common.{◌≡◌, ℕ, ◌-◌, List, ◌++◌, take, vec
 use Rattle.summary.proofs.Quotes.{refusal_held, never_short}
 use Rattle.summary.proofs.quoting.push_refusal.Goals as goal
 
-pub returns-in-ok-push-bytes : goal.returns-in-ok-push-bytes
-returns-in-ok-push-bytes c =
-    let h = refusal_held c.args.refusal c.in-Ok.size c.write-refusal.new.output c.in-Ok.ensures in
+pub returns-in_ok-push_bytes : goal.returns-in_ok-push_bytes
+returns-in_ok-push_bytes c =
+    let h = refusal_held c.args.refusal c.in-Ok.size c.write_refusal.new.output c.in-Ok.ensures in
     let from : c.in-Ok.size - 0 ≡ c.in-Ok.size = omega arith in
-    let front = ap (λ n. take n c.write-refusal.new.output) from ∙ h in
-    c.in-ok-push-bytes.ensures ∙ ap (λ (x : List ℕ). vec_items c.args.out.now ++ x) front
+    let front = ap (λ n. take n c.write_refusal.new.output) from ∙ h in
+    c.in_ok-push_bytes.ensures ∙ ap (λ (x : List ℕ). vec_items c.args.out.now ++ x) front
 
 pub returns-in-Err : goal.returns-in-Err
 returns-in-Err c =
     let k = c.in-Err.ensures in
-    absurd (never_short c.args.refusal k.0 c.write-refusal.new.output (omega arith) (omega arith) k.2)
+    absurd (never_short c.args.refusal k.0 c.write_refusal.new.output (omega arith) (omega arith) k.2)

@@ -8,4 +8,4 @@ pub returns : goal.returns
 unfolding refused_text
 returns c =
     let start = vec_items c.args.out.now in
-    two_parts start _ _ _ _ (c.in-ok-push-refusal.ensures ∙ ap (λ r. start ++ refusal_text r) c.refusal.ensures) c.in-ok-push-quote.ensures
+    two_parts start _ _ _ _ (c.in_ok-push_refusal.ensures ∙ ap (λ r. start ++ refusal_text r) c.refusal.ensures) c.in_ok-push_quote.ensures

@@ -9,7 +9,7 @@ loop-b-preserved c =
     let i = c.loop-b.b-index in
     let m = map_more shown xs i 0 (omega arith) in
     let a = append_assoc (vec_items c.args.out.now) (map shown (take i xs)) (shown (get_or xs i 0) ∷ []) in
-    let p = c.in-ok-push.ensures.items in
+    let p = c.in_ok-push.ensures.items in
     let s = c.show.ensures in
     let v = c.loop-b.invariant in
     cc

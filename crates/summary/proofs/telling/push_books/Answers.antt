@@ -9,5 +9,5 @@ returns g c =
     let book = g.B.Book.meaning c.args.book.now in
     let targets = g.B.Book.meaning c.args.targets.now in
     two_parts start _ _ (begins_text (codes "rule") 1 (rule_begins book)) _
-    c.in-ok-next.ensures.adds
-    (c.in-ok-push-begins.ensures.adds ∙ ap (λ n. vec_items c.push-begins.new.out ++ begins_text (codes "target") 1 (begins (n + 1) targets.rules)) c.in-ok-next.ensures.next.0)
+    c.in_ok-next.ensures.adds
+    (c.in_ok-push_begins.ensures.adds ∙ ap (λ n. vec_items c.push_begins.new.out ++ begins_text (codes "target") 1 (begins (n + 1) targets.rules)) c.in_ok-next.ensures.next.0)

@@ -11,5 +11,5 @@ returns g c =
     let start = vec_items c.args.out.now in
     let many = sym (length-map c.args.names.now (word_in c.args.text.now)) in
     three_parts start _ _ _ _ _ _
-    (c.in-ok-push-head.ensures ∙ (λ i. start ++ head_text (c.width.ensures i) (c.count.ensures i) (c.count-2.ensures i) (many i)))
-    c.in-ok-push-names.ensures c.in-ok-push-books.ensures
+    (c.in_ok-push_head.ensures ∙ (λ i. start ++ head_text (c.width.ensures i) (c.count.ensures i) (c.count-2.ensures i) (many i)))
+    c.in_ok-push_names.ensures c.in_ok-push_books.ensures

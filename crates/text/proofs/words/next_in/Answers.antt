@@ -6,11 +6,11 @@ use Rattle.text.proofs.words.next_in.Goals as goal
 pub returns : goal.returns
 returns c =
     let z : c.args.end - 0 ≡ c.args.end = omega arith in
-    let h = rw z at c.next-word-2.ensures in
-    widen c.args.text.now c.args.from c.args.end (omega arith) c.next-word-2.result h
+    let h = rw z at c.next_word-2.ensures in
+    widen c.args.text.now c.args.from c.args.end (omega arith) c.next_word-2.result h
 
 pub returns-then-end-size : goal.returns-then-end-size
-returns-then-end-size c = whole c.args.text.now c.args.from c.args.end (omega arith) c.next-word.result c.next-word.ensures
+returns-then-end-size c = whole c.args.text.now c.args.from c.args.end (omega arith) c.next_word.result c.next_word.ensures
 
 pub returns-then-from-size : goal.returns-then-from-size
 returns-then-from-size c =

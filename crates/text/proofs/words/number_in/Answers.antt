@@ -16,8 +16,8 @@ loop-i-preserved c =
     let same : same_word (get_or (map (part t) ns) c.loop-i.i key) key ≡ false = cc in
     (omega arith, front-more (differs key) (map (part t) ns) c.loop-i.i key (simp length-map c.loop-i-test.true) (ap not same) ∙ c.loop-i.invariant.1)
 
-pub returns-else-not-same-word : goal.returns-else-not-same-word
-returns-else-not-same-word c =
+pub returns-else-not-same_word : goal.returns-else-not-same_word
+returns-else-not-same_word c =
     let t = c.args.text.now in
     let ns = c.args.names.now in
     let key = part t c.args.word in

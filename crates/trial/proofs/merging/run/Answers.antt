@@ -23,8 +23,8 @@ merge-held-requires g c =
     let l : base ≤ max spot.one spot.other = omega (arith, c.max.ensures, c.if-max-lt16777216.false) in
     room b fits h h' m on spot.one spot.other spot.rule o l c.requires.few
 
-pub overflow-add-made : goal.overflow-add-made
-overflow-add-made g c = omega (arith, c.ranges.n.fits, c.loop-made.invariant.1, c.if-made-n.false)
+pub overflow_add-made : goal.overflow_add-made
+overflow_add-made g c = omega (arith, c.ranges.n.fits, c.loop-made.invariant.1, c.if-made-n.false)
 
 pub loop-made-smaller : goal.loop-made-smaller
 loop-made-smaller g c =
@@ -53,12 +53,12 @@ loop-made-preserved g c =
     let l : base ≤ max spot.one spot.other = omega (arith, c.max.ensures, c.if-max-lt16777216.false) in
     (merged_more b fits h h' m on spot.one spot.other spot.rule o l c.merge-held.result c.merge-held.ensures, omega (arith, c.loop-made.invariant.1, c.if-made-n.false))
 
-pub returns-in-default : goal.returns-in-default
-returns-in-default g c =
+pub returns-in_default : goal.returns-in_default
+returns-in_default g c =
     let b = g.B.Book.meaning c.args.book.now in
     let h = c.args.start in
     let h' = c.loop-made.held in
-    (c.loop-made.invariant.0, omega arith, rests b (g.B.Book.well c.args.book.now) h h' c.loop-made.made c.loop-made.invariant.0 h'.at (length b.rules) refl c.in-default.ensures)
+    (c.loop-made.invariant.0, omega arith, rests b (g.B.Book.well c.args.book.now) h h' c.loop-made.made c.loop-made.invariant.0 h'.at (length b.rules) refl c.in_default.ensures)
 
 pub returns-then-max-lt16777216 : goal.returns-then-max-lt16777216
 returns-then-max-lt16777216 g c =

@@ -17,7 +17,7 @@ pub loop-i-preserved : goal.loop-i-preserved
 loop-i-preserved g c =
     led_on (g.B.Book.meaning c.args.book.now) g.T.Book.meaning g.T.Book.well c.args.requests.now c.loop-i.i c.index-requests-i.result
     c.loop-i-test.true (sym c.index-requests-i.is) (vec_items c.loop-i.replies) (vec_items c.push.new.self) c.call-reply.result
-    c.in-ok-push.ensures.items (seen c.loop-i.trial) (seen c.call-reply.new.trial) c.loop-i.invariant c.call-reply.ensures
+    c.in_ok-push.ensures.items (seen c.loop-i.trial) (seen c.call-reply.new.trial) c.loop-i.invariant c.call-reply.ensures
 
 pub returns : goal.returns
 returns g c =

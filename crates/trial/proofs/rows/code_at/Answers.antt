@@ -4,9 +4,9 @@ use Rattle.rules.specs.declared.loaded.CodeRow.{CodeRow}
 use Rattle.rules.specs.Loaded.{no_codes}
 use Rattle.trial.proofs.rows.code_at.Goals as goal
 
-pub returns-in-default : goal.returns-in-default
-returns-in-default c =
-    sym (ap (λ (r : CodeRow). get_or r.codes c.args.column 0) (get_or_past c.args.target.now.rows c.args.row no_codes c.in-default.ensures.lookup.3))
+pub returns-in_default : goal.returns-in_default
+returns-in_default c =
+    sym (ap (λ (r : CodeRow). get_or r.codes c.args.column 0) (get_or_past c.args.target.now.rows c.args.row no_codes c.in_default.ensures.lookup.3))
 
 pub returns-in-None : goal.returns-in-None
 returns-in-None c =

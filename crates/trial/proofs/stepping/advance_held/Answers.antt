@@ -18,7 +18,7 @@ pub returns-then-held : goal.returns-then-held
 returns-then-held g c =
     let b = g.B.Book.meaning c.args.book.now in
     let h = c.args.held in
-    let (begun, width) = c.in-default.ensures in
+    let (begun, width) = c.in_default.ensures in
     let step = advance_clashed b c.args.n h begun width c.if-held.true in
     (c.requires, step, call_promised b (g.B.Book.well c.args.book.now) (Advance c.args.n) tt (view h) (Made 0 Clash) (view h) step)
 
@@ -27,6 +27,6 @@ returns g c =
     let b = g.B.Book.meaning c.args.book.now in
     let h = c.args.held in
     let ran = c.run.result in
-    let (begun, width) = c.in-default.ensures in
+    let (begun, width) = c.in_default.ensures in
     let step = advance_ran b c.args.n h begun width c.if-held.false ran.held ran.made ran.stop c.run.ensures in
     (stopped_few b.rules c.args.n h ran.held ran.made ran.stop c.run.ensures c.requires, step, call_promised b (g.B.Book.well c.args.book.now) (Advance c.args.n) tt (view h) (Made ran.made ran.stop) (view ran.held) step)

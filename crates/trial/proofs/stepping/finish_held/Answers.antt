@@ -5,18 +5,18 @@ use Rattle.trial.specs.Views.{view}
 use Rattle.trial.proofs.Goings.{finish_refused, not_refused, finish_clashed, finish_ran}
 use Rattle.trial.proofs.stepping.finish_held.Goals as goal
 
-pub returns-then-is-some : goal.returns-then-is-some
-returns-then-is-some g c =
+pub returns-then-is_some : goal.returns-then-is_some
+returns-then-is_some g c =
     let b = g.B.Book.meaning c.args.book.now in
     let h = c.args.held in
-    let end = finish_refused b h c.advance-fault.result (sym c.is-some.ensures ∙ c.if-is-some.true) c.advance-fault.ensures in
+    let end = finish_refused b h c.advance_fault.result (sym c.is_some.ensures ∙ c.if-is_some.true) c.advance_fault.ensures in
     (end, finish_promised b (g.B.Book.well c.args.book.now) (view h) (record { verdict = Void; left = view h }) end)
 
 pub returns-then-held : goal.returns-then-held
 returns-then-held g c =
     let b = g.B.Book.meaning c.args.book.now in
     let h = c.args.held in
-    let (begun, width) = not_refused b h c.advance-fault.result (sym c.is-some.ensures ∙ c.if-is-some.false) c.advance-fault.ensures in
+    let (begun, width) = not_refused b h c.advance_fault.result (sym c.is_some.ensures ∙ c.if-is_some.false) c.advance_fault.ensures in
     let end = finish_clashed b h begun width c.if-held.true in
     (end, finish_promised b (g.B.Book.well c.args.book.now) (view h) (record { verdict = Follows; left = view h }) end)
 
@@ -26,6 +26,6 @@ returns g c =
     let h = c.args.held in
     let ran = c.run-ran.result in
     let v = c.judge-verdict.result in
-    let (begun, width) = not_refused b h c.advance-fault.result (sym c.is-some.ensures ∙ c.if-is-some.false) c.advance-fault.ensures in
+    let (begun, width) = not_refused b h c.advance_fault.result (sym c.is_some.ensures ∙ c.if-is_some.false) c.advance_fault.ensures in
     let end = finish_ran b h begun width c.if-held.false c.requires ran.held ran.made ran.stop v c.run-ran.ensures c.judge-verdict.ensures in
     (end, finish_promised b (g.B.Book.well c.args.book.now) (view h) (record { verdict = v; left = view ran.held }) end)

@@ -8,32 +8,32 @@ use Rattle.writing.specs.Reports.{lines_text, count_line, row_line}
 use Rattle.writing.proofs.Parted.{put-within}
 use Rattle.writing.proofs.target.put_rows.Goals as goal
 
-pub returns-in-err-put-count : goal.returns-in-err-put-count
-returns-in-err-put-count g c =
+pub returns-in_err-put_count : goal.returns-in_err-put_count
+returns-in_err-put_count g c =
     let rows = rows_of (g.F.Told.outcome c.args.f.now) in
     as_puts (ap (λ n. line_of [] (count_line Rows n) ++ lines_text c.args.text.now (map (row_line c.args.names.now) rows)) c.requires)
-    (exit_puts _ c.from-residual.ensures.1 _ c.in-err-put-count.ensures)
+    (exit_puts _ c.from_residual.ensures.1 _ c.in_err-put_count.ensures)
 
 pub loop-row-init : goal.loop-row-init
 loop-row-init g c =
-    let first = c.in-ok-put-count.ensures in
+    let first = c.in_ok-put_count.ensures in
     (put-within first.same first.cases, λ r b p. p)
 
-pub returns-in-err-put-row : goal.returns-in-err-put-row
-returns-in-err-put-row g c =
+pub returns-in_err-put_row : goal.returns-in_err-put_row
+returns-in_err-put_row g c =
     let rows = rows_of (g.F.Told.outcome c.args.f.now) in
     let all : List (List ℕ) → List ℕ = λ xs. lines_text c.args.text.now (map (row_line c.args.names.now) xs) in
     let h : c.loop-row.row < length rows = omega (arith, c.requires) in
     as_puts (ap (λ n. line_of [] (count_line Rows n) ++ all rows) c.requires)
-    (then-puts _ c.in-ok-put-count.ensures (c.loop-row.invariant.1 _ _ (as_puts (sym (at_drop_more all rows c.loop-row.row [] h))
-    (exit_puts _ c.from-residual-in-err-put-row.ensures.1 _ c.in-err-put-row.ensures))))
+    (then-puts _ c.in_ok-put_count.ensures (c.loop-row.invariant.1 _ _ (as_puts (sym (at_drop_more all rows c.loop-row.row [] h))
+    (exit_puts _ c.from_residual-in_err-put_row.ensures.1 _ c.in_err-put_row.ensures))))
 
 pub loop-row-preserved : goal.loop-row-preserved
 loop-row-preserved g c =
     let rows = rows_of (g.F.Told.outcome c.args.f.now) in
     let all : List (List ℕ) → List ℕ = λ xs. lines_text c.args.text.now (map (row_line c.args.names.now) xs) in
     let h : c.loop-row.row < length rows = omega (arith, c.requires) in
-    let this = c.in-ok-put-row.ensures in
+    let this = c.in_ok-put_row.ensures in
     (put-within this.same this.cases, λ r b p. c.loop-row.invariant.1 r b (as_puts (sym (at_drop_more all rows c.loop-row.row [] h)) (then-puts _ this p)))
 
 pub returns : goal.returns
@@ -42,5 +42,5 @@ returns g c =
     let all : List (List ℕ) → List ℕ = λ xs. lines_text c.args.text.now (map (row_line c.args.names.now) xs) in
     let here = c.loop-row.out in
     as_puts (ap (λ n. line_of [] (count_line Rows n) ++ all rows) c.requires)
-    (then-puts _ c.in-ok-put-count.ensures (c.loop-row.invariant.1 _ _ (as_puts (sym (at_drop_all all rows c.loop-row.row (omega (arith, c.requires))))
+    (then-puts _ c.in_ok-put_count.ensures (c.loop-row.invariant.1 _ _ (as_puts (sym (at_drop_all all rows c.loop-row.row (omega (arith, c.requires))))
     (record { same = same_refl here; cases = put-none here c.loop-row.invariant.0 }))))

@@ -10,19 +10,19 @@ pub returns-in-None : goal.returns-in-None
 returns-in-None g c =
     let o = g.F.Told.outcome c.args.f.now in
     let follows = told_none o c.in-None.ensures in
-    as_puts (sym (append-nil (line_of [] (verdict_line c.args.i word.Follows))) ∙ sym (ap (target_text c.args.text.now c.args.names.now c.args.i) follows)) c.put-verdict.ensures
+    as_puts (sym (append-nil (line_of [] (verdict_line c.args.i word.Follows))) ∙ sym (ap (target_text c.args.text.now c.args.names.now c.args.i) follows)) c.put_verdict.ensures
 
-pub put-rows-requires : goal.put-rows-requires
-put-rows-requires g c = (told-some (g.F.Told.outcome c.args.f.now) c.in-Some.count c.in-Some.ensures).1
+pub put_rows-requires : goal.put_rows-requires
+put_rows-requires g c = (told-some (g.F.Told.outcome c.args.f.now) c.in-Some.count c.in-Some.ensures).1
 
-pub returns-in-err-put-verdict : goal.returns-in-err-put-verdict
-returns-in-err-put-verdict g c =
+pub returns-in_err-put_verdict-in-Some : goal.returns-in_err-put_verdict-in-Some
+returns-in_err-put_verdict-in-Some g c =
     let o = g.F.Told.outcome c.args.f.now in
     let fails = (told-some o c.in-Some.count c.in-Some.ensures).0 in
-    as_puts (sym (ap (target_text c.args.text.now c.args.names.now c.args.i) fails)) (exit_puts _ c.from-residual.ensures.1 _ c.in-err-put-verdict.ensures)
+    as_puts (sym (ap (target_text c.args.text.now c.args.names.now c.args.i) fails)) (exit_puts _ c.from_residual.ensures.1 _ c.in_err-put_verdict-in-Some.ensures)
 
-pub returns-in-ok-put-verdict : goal.returns-in-ok-put-verdict
-returns-in-ok-put-verdict g c =
+pub returns-in_ok-put_verdict-in-Some : goal.returns-in_ok-put_verdict-in-Some
+returns-in_ok-put_verdict-in-Some g c =
     let o = g.F.Told.outcome c.args.f.now in
     let fails = (told-some o c.in-Some.count c.in-Some.ensures).0 in
-    as_puts (sym (ap (target_text c.args.text.now c.args.names.now c.args.i) fails)) (then-puts _ c.in-ok-put-verdict.ensures c.put-rows.ensures)
+    as_puts (sym (ap (target_text c.args.text.now c.args.names.now c.args.i) fails)) (then-puts _ c.in_ok-put_verdict-in-Some.ensures c.put_rows.ensures)

@@ -7,8 +7,8 @@ returns-then-rule-self c =
     let s = c.args.self.now in
     none s.words.now s.width s.count s.starts s.wide s.counted s.started c.args.rule c.if-rule-self.true
 
-pub offset-bounds-self-rule : goal.offset-bounds-self-rule
-offset-bounds-self-rule c =
+pub offset_bounds-self-rule : goal.offset_bounds-self-rule
+offset_bounds-self-rule c =
     let s = c.args.self.now in
     let h = few s.words.now s.width s.count s.starts s.wide s.counted s.started in
     search rules

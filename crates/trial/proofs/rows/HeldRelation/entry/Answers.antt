@@ -9,7 +9,7 @@ use Rattle.trial.proofs.rows.HeldRelation.entry.Goals.{else-row-self-via-then-ro
 pub returns-then-column-self : goal.returns-then-column-self
 returns-then-column-self c =
     let h = c.args.self.now in
-    ap Some (c.shown-as.ensures ∙ ap (λ k. at (shows_of h) (term_of k)) c.code-at.ensures)
+    ap Some (c.shown_as.ensures ∙ ap (λ k. at (shows_of h) (term_of k)) c.code_at.ensures)
     ∙ entry-some h c.args.row c.args.column c.if-row-self.true c.if-column-self.true
 
 pub returns-else-row-self : goal.returns-else-row-self
