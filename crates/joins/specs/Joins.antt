@@ -1,5 +1,5 @@
 -- What two books say as one.
-use Rattle.std.specs.Prelude.{◌≡◌, ℕ, ◌+◌, ◌<◌, ◌≤◌, Bool, true, false, cond, ◌&&◌, ◌≢◌, ◌⊎◌, List, [], ◌∷◌, ◌++◌, length, None, Ok, Err, Result, ◌==◌, nat_le, refl}
+use Rattle.std.specs.Prelude.{◌≡◌, ℕ, ◌+◌, ◌<◌, ◌≤◌, Bool, true, false, cond, ◌&&◌, ◌≢◌, List, ◌++◌, length, None, Ok, Err, Result, ◌==◌, nat_le, refl}
 use Rattle.std.proofs.Common.{sym, subst, inl, inr, arith, length-append, eqb-true, leb-true}
 use mathlib.Core.List.Memᴰ
 use Rattle.std.specs.List.{slice_get}

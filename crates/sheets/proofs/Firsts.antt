@@ -1,11 +1,11 @@
 -- The walk looks at no word past the place of its fault.
-use Rattle.std.proofs.Common.{◌≡◌, ℕ, zero, suc, ◌+◌, ◌-◌, ◌*◌, ◌<◌, ◌≤◌, Bool, true, false, cond, ◌&&◌, ◌||◌, eqb, ltb, leb, ◌⊎◌, List, [], ◌∷◌, ◌++◌, length, get_or, take, drop, Ok, Err, Result, sym, refl, ap, ◌∙◌, subst, inl, inr, ⊎_elim, arith, length-take, MatchResult}
-use Rattle.std.proofs.lemmas.List.{get_or-take, take-take, take_at, drop-take, take_all, length-append, take-append-le, get_or_append_left, length-take-le}
-use Rattle.std.proofs.lemmas.Bool.{lt-ltb, le-ltb, ltb-true, cases_Bool, and_parts, and_from, and_left, and_right, both_ways}
+use Rattle.std.proofs.Common.{◌≡◌, ℕ, zero, suc, ◌+◌, ◌-◌, ◌*◌, ◌<◌, ◌≤◌, Bool, true, false, cond, ◌&&◌, ltb, leb, ◌⊎◌, List, [], length, get_or, take, drop, Ok, Err, sym, refl, ap, ◌∙◌, subst, inl, inr, ⊎_elim, arith, length-take}
+use Rattle.std.proofs.lemmas.List.{get_or-take, take-take, drop-take, length-take-le}
+use Rattle.std.proofs.lemmas.Bool.{lt-ltb, le-ltb, ltb-true, cases_Bool, and_parts, and_right}
 use Rattle.sheets.specs.Walk.{Out, then, word_in, passes, each, part, most_left, pair_size, pair_want, lists_end, rule_end, rules_end, sheet_end}
 use Rattle.rules.specs.declared.fault.BookFault.{BookFault}
 use Rattle.sheets.specs.declared.want.Want.{Want}
-use Rattle.sheets.specs.declared.want.Want.TheVariants.{Entry, Listed, Side}
+use Rattle.sheets.specs.declared.want.Want.TheVariants.{Entry, Listed}
 
 then-cond : (b : Bool) (w : ℕ) (g : BookFault) (f : ℕ → Out ℕ) → then (cond b (Ok w) (Err g)) f ≡ cond b (f w) (Err g)
 then-cond true w g f = refl

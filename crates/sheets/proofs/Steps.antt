@@ -1,10 +1,9 @@
 -- One step of each loop of the walk.
-use Rattle.std.proofs.Common.{◌≡◌, ℕ, zero, suc, ◌+◌, ◌-◌, ◌<◌, ◌≤◌, Bool, true, false, cond, ◌&&◌, ◌||◌, eqb, ltb, List, [], ◌∷◌, length, get_or, drop, Ok, Err, Result, sym, refl, ap, ◌∙◌, arith}
+use Rattle.std.proofs.Common.{◌≡◌, ℕ, zero, suc, ◌+◌, ◌<◌, ◌≤◌, true, false, List, length, get_or, drop, Err, ◌∙◌, arith}
 use Rattle.std.proofs.lemmas.List.{at_drop_more, at_drop_all}
 use Rattle.std.proofs.lemmas.Bool.{eq-eqb, ne_eqb, lt-ltb, le-ltb}
-use Rattle.sheets.specs.Walk.{has, each, passes, Out}
+use Rattle.sheets.specs.Walk.{has, each, passes}
 use Rattle.sheets.specs.declared.want.Want.{Want}
-use Rattle.rules.specs.declared.fault.BookFault.{BookFault}
 
 pub has_here : (rows : List ℕ) (i w : ℕ) → i < length rows → get_or rows i 0 ≡ w → has (drop i rows) w ≡ true
 has_here rows i w h e = at_drop_more (λ xs. has xs w) rows i 0 h ∙ rw (eq-eqb (get_or rows i 0) w e)

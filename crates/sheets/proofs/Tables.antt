@@ -1,8 +1,8 @@
 -- One step of the loop that finds where the rules begin.
-use Rattle.std.proofs.Common.{◌≡◌, ℕ, zero, suc, ◌+◌, ◌-◌, ◌<◌, ◌≤◌, ◌≢◌, List, [], ◌∷◌, length, get_or, set, Ok, Err, Result, sym, refl, ap, ◌∙◌, inl, inr, ⊎_elim, add-one, arith}
+use Rattle.std.proofs.Common.{◌≡◌, ℕ, zero, suc, ◌+◌, ◌<◌, ◌≢◌, List, length, set, Ok, Err, sym, refl, ⊎_elim, arith}
 use Rattle.std.proofs.lemmas.List.{get_or-set_same, get_or-set_other}
 use Rattle.std.proofs.lemmas.Bool.{cases_order}
-use Rattle.sheets.specs.Walk.{Out, rule_end, rules_end}
+use Rattle.sheets.specs.Walk.{rule_end, rules_end}
 use Rattle.sheets.specs.Reads.{end_of}
 use Rattle.sheets.specs.Facts.{start_of, Starts}
 use Rattle.rules.specs.declared.fault.BookFault.{BookFault}

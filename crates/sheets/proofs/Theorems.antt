@@ -1,20 +1,20 @@
 -- The laws of whole sheets.
-use Rattle.std.proofs.Common.{◌≡◌, ℕ, zero, suc, ◌+◌, ◌-◌, ◌*◌, ◌<◌, ◌≤◌, List, [], ◌∷◌, ◌++◌, length, get_or, drop, Ok, Err, Result, sym, refl, ap, ◌∙◌, subst, append_assoc, arith}
+use Rattle.std.proofs.Common.{◌≡◌, ℕ, zero, suc, ◌+◌, ◌≤◌, List, [], ◌∷◌, ◌++◌, length, get_or, drop, Ok, Err, sym, refl, ap, ◌∙◌, subst, append_assoc, arith}
 use mathlib.Core.List.Memᴰ
 use Rattle.std.specs.List.{flat_map}
 use Rattle.std.proofs.lemmas.List.{length-append, length-drop}
 use Rattle.rules.specs.Rules.{Rule, ◌∈◌}
-use Rattle.rules.specs.Books.{BookMeaning, WellFormed, WellFormedBook}
-use Rattle.sheets.specs.Walk.{Out, then, word_in, rule_end, rules_end, sheet_end}
+use Rattle.rules.specs.Books.{BookMeaning, WellFormed}
+use Rattle.sheets.specs.Walk.{Out, word_in, rule_end, rules_end, sheet_end}
 use Rattle.sheets.specs.Layout.{layout_rule, layout}
 use Rattle.sheets.specs.Reads.{end_of, rule_at, rules_at, empty_book, meaning_by, sheet_meaning}
 use Rattle.sheets.specs.Facts.{Whole}
 use Rattle.sheets.specs.Wholes.{then_ok, word_ok, whole_from, clash}
 use Rattle.sheets.specs.Lays.{rule_lay, head_at}
 use Rattle.sheets.specs.Wells.{sheet_well, rules_length}
-use Rattle.sheets.specs.Laws.{Fitting, Written, Passing, Failing, ReadBack, Opens, WrittenPasses, PassingIsWritten, FailingIsFirst}
+use Rattle.sheets.specs.Laws.{Fitting, Written, Passing, ReadBack, Opens, WrittenPasses, PassingIsWritten, FailingIsFirst}
 use Rattle.sheets.proofs.Firsts.{place_inside, place-front, place-always}
-use Rattle.sheets.proofs.Written.{then-pass, word_pass, rule-pass, at_head, Spread, spread, whole-written, read-written}
+use Rattle.sheets.proofs.Written.{then-pass, word_pass, rule-pass, at_head, spread, whole-written, read-written}
 use Rattle.rules.specs.declared.fault.BookFault.{BookFault}
 
 -- rules that are written down

@@ -1,5 +1,5 @@
 -- What holds of sheets: laid out and read back, and where the first fault stands.
-use Rattle.std.specs.Prelude.{◌≡◌, ℕ, ◌+◌, ◌<◌, ◌≤◌, List, ◌++◌, length, take, drop, Ok, Err, Result}
+use Rattle.std.specs.Prelude.{◌≡◌, ℕ, ◌+◌, ◌<◌, ◌≤◌, List, ◌++◌, length, take, drop, Ok, Err}
 use Rattle.rules.specs.Books.{BookMeaning, WellFormedBook}
 use Rattle.rules.specs.declared.fault.BookFault.{BookFault}
 use Rattle.sheets.specs.Walk.{Out, sheet_end}

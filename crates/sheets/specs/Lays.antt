@@ -1,22 +1,18 @@
 -- Lemmas: words that pass are a layout of what they say.
 -- They stand here, and not in proofs/, because Wells needs them.
-use Rattle.std.specs.Prelude.{◌≡◌, ℕ, zero, suc, ◌+◌, ◌-◌, ◌*◌, ◌<◌, ◌≤◌, Bool, true, false, cond, ◌⊎◌, List, [], ◌∷◌, ◌++◌, map, length, drop, ◌==◌, nat_lt, slice_index, slice_index_or, refl}
-use Rattle.std.proofs.Common.{sym, subst, ◌∙◌, append_assoc, inl, inr, ⊎_elim, suc-mul, zero-mul}
+use Rattle.std.specs.Prelude.{◌≡◌, ℕ, zero, suc, ◌+◌, ◌-◌, ◌*◌, ◌<◌, ◌≤◌, Bool, true, false, cond, List, ◌∷◌, ◌++◌, map, length, drop, ◌==◌, nat_lt, slice_index, slice_index_or, refl}
+use Rattle.std.proofs.Common.{sym, ◌∙◌, append_assoc, ⊎_elim, suc-mul, zero-mul}
 use Rattle.std.proofs.Math.Path.{ap}
 use native.Mathlib.Omega.{arith}
 use Rattle.std.specs.List.{flat_map}
 use Rattle.std.proofs.lemmas.List.{drop_more}
 use Rattle.std.proofs.lemmas.Bool.{cases_Bool, eqb-true, eqb-false, ltb-false}
 use Rattle.rules.specs.Books.{base}
-use Rattle.rules.specs.Rules.{Rule}
 use Rattle.sheets.specs.Walk.{pair_size}
 use Rattle.sheets.specs.Layout.{word_of, kind_word, pair_words, left_words, layout_lists, layout_rule}
 use Rattle.sheets.specs.Reads.{slots, term_of, kind_of, term_in, left_in, pair_in, left_place, pair_place, end_of, rule_at}
 use Rattle.sheets.specs.Facts.{Whole}
 use Rattle.sheets.specs.Slots.{slots_length}
-use Rattle.rules.specs.declared.term.Term.{Term}
-use Rattle.rules.specs.declared.term.Term.TheVariants.{Constant, Variable}
-use Rattle.rules.specs.declared.term.Kind.{Kind}
 use Rattle.rules.specs.declared.term.Kind.TheVariants.{Functional, Equality}
 
 -- a word is that of the term that it says

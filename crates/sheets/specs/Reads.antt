@@ -1,5 +1,5 @@
 -- What the words of a sheet say, by the places where they stand, and so what a sheet means.
-use Rattle.std.specs.Prelude.{ℕ, zero, suc, ◌+◌, ◌-◌, ◌*◌, cond, List, [], ◌∷◌, Ok, Err, Result, ◌==◌, nat_lt, slice_index}
+use Rattle.std.specs.Prelude.{ℕ, zero, suc, ◌+◌, ◌-◌, ◌*◌, cond, List, [], ◌∷◌, Ok, Err, ◌==◌, nat_lt, slice_index}
 use Rattle.rules.specs.Rules.{Rule}
 use Rattle.rules.specs.Books.{base, BookMeaning}
 use Rattle.sheets.specs.Walk.{Out, pair_size, sheet_end}

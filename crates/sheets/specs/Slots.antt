@@ -1,7 +1,7 @@
 -- Lemmas: what stands in slots of one size.
 -- They stand here, and not in proofs/, because Wells needs them.
-use Rattle.std.specs.Prelude.{◌≡◌, ℕ, zero, suc, ◌+◌, ◌*◌, ◌<◌, ◌≤◌, List, [], ◌∷◌, length, Some, None, Option, refl}
-use Rattle.std.proofs.Common.{sym, ap, ◌∙◌, arith, suc-mul, zero-mul}
+use Rattle.std.specs.Prelude.{◌≡◌, ℕ, zero, suc, ◌+◌, ◌*◌, ◌<◌, ◌≤◌, length, Some, None, refl}
+use Rattle.std.proofs.Common.{ap, arith, suc-mul, zero-mul}
 use Rattle.std.specs.List.{slice_get}
 use Rattle.sheets.specs.Reads.{slots}
 

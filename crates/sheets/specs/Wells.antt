@@ -1,15 +1,15 @@
 -- Lemmas: what the words of a sheet say is well formed.
 -- The last of them is what a sheet gives for the well-formedness that the trait Book asks of it.
-use Rattle.std.specs.Prelude.{◌≡◌, ℕ, zero, suc, ◌+◌, ◌-◌, ◌*◌, ◌<◌, ◌≤◌, Bool, true, false, cond, ◌&&◌, ◌||◌, ◌⊎◌, List, [], ◌∷◌, ◌++◌, map, length, drop, Ok, Err, Result, ◌==◌, nat_le, nat_lt, slice_index, slice_index_or, refl}
-use Rattle.std.proofs.Common.{sym, ap, subst, ◌∙◌, inl, inr, ⊎_elim, arith, suc-mul, zero-mul}
+use Rattle.std.specs.Prelude.{◌≡◌, ℕ, zero, suc, ◌+◌, ◌-◌, ◌*◌, ◌<◌, ◌≤◌, Bool, true, false, cond, ◌⊎◌, List, [], ◌∷◌, ◌++◌, map, length, drop, Ok, Err, ◌==◌, nat_le, nat_lt, slice_index, slice_index_or, refl}
+use Rattle.std.proofs.Common.{sym, ap, subst, ◌∙◌, inl, inr, ⊎_elim, arith, suc-mul}
 use mathlib.Core.List.Memᴰ
 use mathlib.Core.List.{Memᴰ}
 use Rattle.std.specs.List.{flat_map}
 use Rattle.std.proofs.lemmas.List.{take_at, length-append, length-drop}
-use Rattle.std.proofs.lemmas.Bool.{cases_Bool, eqb-true, eqb-false, ltb-true, ltb-false, leb-true, and_parts, or_cases, or_right, le-ltb}
+use Rattle.std.proofs.lemmas.Bool.{cases_Bool, eqb-true, ltb-true, ltb-false, leb-true, and_parts, or_cases, or_right, le-ltb}
 use Rattle.rules.specs.Rules.{Rule, Pattern, ◌∈◌}
-use Rattle.rules.specs.Books.{base, BookMeaning, Small, Stands, Known, PairOf, LeftOf, WellFormed, WellFormedBook}
-use Rattle.sheets.specs.Walk.{limit, Out, has, passes, part, most_left, pair_size, pair_want, rule_end, rules_end, sheet_end}
+use Rattle.rules.specs.Books.{base, Small, Stands, Known, PairOf, LeftOf, WellFormed, WellFormedBook}
+use Rattle.sheets.specs.Walk.{limit, Out, has, passes, part, pair_size, pair_want, rule_end, rules_end, sheet_end}
 use Rattle.sheets.specs.Layout.{word_of}
 use Rattle.sheets.specs.Reads.{slots, term_of, kind_of, term_in, left_in, pair_in, left_place, pair_place, end_of, rule_at, rules_at, meaning_by, sheet_meaning}
 use Rattle.sheets.specs.Facts.{Whole}
@@ -18,10 +18,8 @@ use Rattle.sheets.specs.Wholes.{whole_from, then_ok, word_ok}
 use Rattle.sheets.specs.Lays.{pattern_lay}
 use Rattle.rules.specs.declared.term.Term.{Term}
 use Rattle.rules.specs.declared.term.Term.TheVariants.{Constant, Variable}
-use Rattle.rules.specs.declared.term.Kind.{Kind}
 use Rattle.rules.specs.declared.term.Kind.TheVariants.{Functional, Equality}
-use Rattle.sheets.specs.declared.want.Want.{Want}
-use Rattle.sheets.specs.declared.want.Want.TheVariants.{Entry, Listed, Side}
+use Rattle.sheets.specs.declared.want.Want.TheVariants.{Listed, Side}
 
 -- an element of what stands in slots stands in one of them
 pub mem_slots : {X : Type 0} (f : ℕ → X) (size n at : ℕ) (x : X) → x ∈ slots f size n at → (p : ℕ) × (at ≤ p) × (p + size ≤ at + n * size) × (x ≡ f p)

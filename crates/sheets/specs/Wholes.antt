@@ -1,11 +1,11 @@
 -- Lemmas: what it says of the words that the walk comes to an end.
 -- They stand here, and not in proofs/, because Wells needs them.
-use Rattle.std.specs.Prelude.{◌≡◌, ℕ, zero, suc, ◌+◌, ◌-◌, ◌*◌, ◌<◌, ◌≤◌, Bool, true, false, cond, ◌&&◌, ◌||◌, ◌⊎◌, List, [], ◌∷◌, length, drop, Ok, Err, Result, ◌==◌, nat_le, nat_lt, slice_index, slice_index_or, refl}
-use Rattle.std.proofs.Common.{sym, ap, subst, ◌∙◌, inl, inr, ⊎_elim, arith, length-take}
-use Rattle.std.proofs.lemmas.List.{get_or-take, get_or-drop, length-drop}
-use Rattle.std.proofs.lemmas.Bool.{ltb-true, leb-true, eqb-true, and_parts, or_cases, cases_lt, cases_order}
+use Rattle.std.specs.Prelude.{◌≡◌, ℕ, zero, suc, ◌+◌, ◌-◌, ◌*◌, ◌<◌, ◌≤◌, Bool, true, false, cond, ◌&&◌, List, [], ◌∷◌, length, drop, Ok, Err, ◌==◌, nat_le, nat_lt, slice_index, slice_index_or, refl}
+use Rattle.std.proofs.Common.{sym, ap, ◌∙◌, ⊎_elim, arith, length-take}
+use Rattle.std.proofs.lemmas.List.{get_or-take, get_or-drop}
+use Rattle.std.proofs.lemmas.Bool.{ltb-true, leb-true, eqb-true, and_parts, or_cases, cases_order}
 use Rattle.rules.specs.Books.{base}
-use Rattle.sheets.specs.Walk.{limit, Out, then, word_in, has, passes, each, part, most_left, pair_size, pair_want, lists_end, rule_end}
+use Rattle.sheets.specs.Walk.{limit, Out, then, word_in, has, passes, each, part, most_left, pair_size, pair_want, rule_end}
 use Rattle.sheets.specs.Reads.{left_place, pair_place, end_of}
 use Rattle.sheets.specs.Facts.{Whole}
 use Rattle.sheets.specs.declared.want.Want.{Want}

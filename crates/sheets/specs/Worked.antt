@@ -1,6 +1,6 @@
 -- Some sheets that fail, and where.
 use Rattle.std.specs.Prelude.{◌≡◌, ℕ, List, [], ◌∷◌, ◌++◌, Ok, Err}
-use Rattle.sheets.specs.Walk.{Out, sheet_end}
+use Rattle.sheets.specs.Walk.{sheet_end}
 
 abbrev pub FailsAt : List ℕ → ℕ → Type 0
 FailsAt words p = sheet_end words ≡ Err (record { place = p })

@@ -8,7 +8,7 @@ use Rattle.reader.specs.declared.fault.ReadFault.{ReadFault}
 use Rattle.reader.specs.Format.{Memo, read_lines, whole_text, nothing, read_text}
 use Rattle.reader.specs.Reads.{Lent, rooms_in}
 use Rattle.spelling.specs.Draft.{Draft, Spells, put_down}
-use Rattle.spelling.specs.Laws.{ReadFits, SpelledReads, RefusedRoom}
+use Rattle.spelling.specs.Exactly.{ReadFits, FittingReads, RefusedRoom}
 use Rattle.spelling.specs.Room.{FitsIn, put_by, PutDownBy, Begins, FullAt, NoRoom}
 use Rattle.spelling.proofs.Endless.{E}
 use Rattle.spelling.proofs.Fronts.{front_length, fronts, read-put}
@@ -47,8 +47,8 @@ module _ (lent : Lent) where
       let all = whole (lines_at 0 text) (put_down d) (spelled_text 1 text d h) in
       stopped text r (fits-less r.after (put_down d) (fronts (suc r.at) (length (lines_at 0 text)) (lines_at 0 text) r.after (put_down d) r.there r.put_after all) f)
 
-pub spelled_reads : SpelledReads
-spelled_reads lent text d short h f =
+pub fitting_reads : FittingReads
+fitting_reads lent text d short h f =
     cond-true (leb (length text) 65536) (read_lines (rooms_in lent) 1 whole_text nothing (lines_at 0 text)) (Refused 0 Room) (le-leb _ _ short)
     ∙ ⊎_elim (λ a. a.same ∙ spelled_text 1 text d h) (λ r. absurd (overfull lent text d r h f)) (lines_in (rooms_in lent) text)
 

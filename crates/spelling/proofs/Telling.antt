@@ -18,25 +18,26 @@ use Rattle.text.specs.Words.{Word}
 use Rattle.spelling.specs.Draft.{Draft, Spells, put_down}
 use Rattle.spelling.specs.Book.{SpellsBook, book_of, targets_of}
 use Rattle.spelling.specs.Laws.{Why, Tells, OpensAs}
+use Rattle.spelling.specs.Exactly.{TellsExactly}
 use Rattle.spelling.specs.Room.{FitsIn}
 use Rattle.spelling.proofs.Fits.{fitting}
 use Rattle.spelling.proofs.Refusals.{Refused}
 use Rattle.spelling.proofs.Laid.{laid}
 use Rattle.spelling.proofs.Filling.{read_fits, refused-room, spelled_refused}
 use Rattle.spelling.proofs.Theorems.{read-spells, refused-spells_nothing, refused-lines}
-use Rattle.spelling.proofs.Unique.{draft_alone}
+use Rattle.spelling.proofs.Unique.{draft_alone, spells_one_book}
 
 -- with at most 4,096 places for names there are no more names
 pub few_names : (n : Lent) (text : List ℕ) (m : Memo) → read_text (rooms_in n) text ≡ Ok m → length m.names ≤ 4096
 few_names n text m q = le_trans (read_fits n text m q).1.names (min-le_right n.names 4096)
 
 module _ (n : Lent) (text : List ℕ) where
-  why : (e : Cause) (i : ℕ) → read_text (rooms_in n) text ≡ Refused i e → Why text n i e
+  why : (e : Cause) (i : ℕ) → read_text (rooms_in n) text ≡ Refused i e → Why text i e
   why Byte i q = λ other same d h. refused-spells_nothing (rooms_in n) text other Byte i q (λ x. let z : ◌≡◌ {A = ℕ} 0 1 = cc (x) in omega arith) (λ x. let z : ◌≡◌ {A = ℕ} 0 1 = cc (x) in omega arith) same d h
   why Form i q = λ other same d h. refused-spells_nothing (rooms_in n) text other Form i q (λ x. let z : ◌≡◌ {A = ℕ} 0 1 = cc (x) in omega arith) (λ x. let z : ◌≡◌ {A = ℕ} 0 1 = cc (x) in omega arith) same d h
   why Count i q = λ other same d h. refused-spells_nothing (rooms_in n) text other Count i q (λ x. let z : ◌≡◌ {A = ℕ} 0 1 = cc (x) in omega arith) (λ x. let z : ◌≡◌ {A = ℕ} 0 1 = cc (x) in omega arith) same d h
   why Unknown i q = λ other same d h. refused-spells_nothing (rooms_in n) text other Unknown i q (λ x. let z : ◌≡◌ {A = ℕ} 0 1 = cc (x) in omega arith) (λ x. let z : ◌≡◌ {A = ℕ} 0 1 = cc (x) in omega arith) same d h
-  why Room i q = (refused-room n text i).0 q
+  why Room i q = tt
   why Lines i q = refused-lines (rooms_in n) text i q
 
   same_memo : (m : Memo) → read_text (rooms_in n) text ≡ Ok m → (d : Draft) → Spells text d → m ≡ put_down d
@@ -48,7 +49,6 @@ module _ (n : Lent) (text : List ℕ) where
   pub telling : WrittenPasses → (r : Result Sizes ReadFault) (rs ts : List ℕ) (ns : List Name) → Reads text n (read_text (rooms_in n) text) r rs ts ns → Tells text n r rs ts ns
   telling back (Ok s) rs ts ns (m, q, h) =
       let d = read-spells (rooms_in n) text m q in
-      let fits = read_fits n text m q in
       let opens : (book targets : BookMeaning) (names : List Word) → SpellsBook text book targets names → OpensAs rs book × OpensAs ts targets = λ book targets names sp.
       let e = sp.draft in
       let same = ap (λ z. length z.names) (same_memo m q e sp.spells) in
@@ -63,10 +63,9 @@ module _ (n : Lent) (text : List ℕ) where
       record {
         draft = d.0;
         spells = d.1;
-        short = fits.0;
-        fits = λ e sp. subst (FitsIn n) (same_memo m q e sp) fits.1;
         holds = holds;
         spelled = record { draft = d.0; spells = d.1; book_is = refl; targets_is = refl; names_are = refl };
+        alone = (spells_one_book text).book;
         opens = opens;
         laid_out = λ book targets names sp.
             let e = sp.draft in
@@ -79,4 +78,10 @@ module _ (n : Lent) (text : List ℕ) where
               parts = subst (λ z. words_in text (map name_of z) ≡ z) (sym sp.names_are) hold.parts;
             };
       }
-  telling back (Err e) rs ts ns (q, b) = record { blank = b; why = why e.cause e.line q; only_room = λ d sp. spelled_refused n text d e sp q }
+  telling back (Err e) rs ts ns (q, b) = record { blank = b; why = why e.cause e.line q; only_room = λ d sp. (spelled_refused n text d e sp q).0 }
+
+  pub telling_exactly : (r : Result Sizes ReadFault) (rs ts : List ℕ) (ns : List Name) → Reads text n (read_text (rooms_in n) text) r rs ts ns → TellsExactly text n r
+  telling_exactly (Ok s) rs ts ns (m, q, h) =
+      let fits = read_fits n text m q in
+      record { short = fits.0; fits = λ d sp. subst (FitsIn n) (same_memo m q d sp) fits.1 }
+  telling_exactly (Err e) rs ts ns (q, b) = record { room = λ z. (refused-room n text e.line).0 (q ∙ ap (Refused e.line) z); passes = λ d sp. (spelled_refused n text d e sp q).1 }

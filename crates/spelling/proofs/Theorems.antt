@@ -1,4 +1,5 @@
 -- The laws of reading.
+use Rattle.std.proofs.lemmas.Bool.{cond-true, le-leb}
 use Rattle.std.proofs.Common.{◌≡◌, ℕ, suc, ◌+◌, ◌-◌, Bool, true, false, cond, leb, ◌⊎◌, List, length, take, Ok, Err, Result, sym, refl, ap, ◌∙◌, subst, inl, inr, ⊎_elim, arith}
 use Rattle.text.specs.Lines.{Line, lines_at}
 use Rattle.text.proofs.Spelled.{lines_are_spelled}
@@ -7,7 +8,7 @@ use Rattle.reader.specs.declared.fault.Cause.TheVariants.{Room, Lines}
 use Rattle.reader.specs.declared.fault.ReadFault.{ReadFault}
 use Rattle.reader.specs.Format.{Rooms, Memo, read_lines, whole_text, nothing, read_text}
 use Rattle.spelling.specs.Draft.{Draft, LinesSpell, Spells, put_down}
-use Rattle.spelling.specs.Laws.{ReadSpells, RefusedSpellsNothing, RefusedLines}
+use Rattle.spelling.specs.Laws.{ReadSpells, SpelledReads, SpellsOne, RefusedSpellsNothing, RefusedLines}
 use Rattle.spelling.specs.Room.{WholePutDown}
 use Rattle.spelling.proofs.Endless.{E}
 use Rattle.spelling.proofs.Fronts.{read-put}
@@ -49,6 +50,17 @@ read-spells rooms text m q =
     let same = ⊎_elim (λ a. sym a.same ∙ c.1) (λ r. room-no (1 + r.at) m (read_lines rooms 1 whole_text nothing (lines_at 0 text)) r.refused c.1) (lines_in rooms text) in
     let s = lines_spell 1 (lines_at 0 text) m same in
     (s.0, record { lines = lines_at 0 text; lined = (lines_are_spelled 0 text (lines_at 0 text)).0 refl; spelled = s.1 }, s.2)
+
+pub spelled_reads : SpelledReads
+spelled_reads rooms text d short h =
+    let open-text = cond-true (leb (length text) 65536) (read_lines rooms 1 whole_text nothing (lines_at 0 text)) (Err (record { cause = Room; line = 0 })) (le-leb _ _ short) in
+    ⊎_elim (λ a. inl (open-text ∙ (a.same ∙ spelled_text 1 text d h))) (λ r. inr (1 + r.at, open-text ∙ r.refused)) (lines_in rooms text)
+
+pub spells_one : SpellsOne
+spells_one text d e h k =
+    let p = spelled_text 1 text d h in
+    let q = spelled_text 1 text e k in
+    cc
 
 -- a text that is not too long is refused where its lines are
 lines_refused : (rooms : Rooms) (text : List ℕ) (e : Cause) (n : ℕ) → read_text rooms text ≡ Refused n e → (e ≡ Room → ⊥) → read_lines E 1 whole_text nothing (lines_at 0 text) ≡ Refused n e

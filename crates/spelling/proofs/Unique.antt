@@ -12,7 +12,7 @@ use Rattle.reader.specs.declared.desk.Entry.TheVariants as entries
 use Rattle.reader.specs.Format.{Memo, least, most, count_line, kind_line}
 use Rattle.spelling.specs.Draft.{RuleDraft, Draft, CountWritten, ListWritten, KindWritten, ListsWritten, RuleWritten, RulesWritten, DraftWritten, LineWords, LinesSpell, Spells, ListOk, ListsOk, RuleOk, RulesOk, DraftOk, after_rows, put_rule, rules_memo, targets_memo, put_down}
 use Rattle.spelling.specs.Book.{book_of, targets_of}
-use Rattle.spelling.specs.Laws.{SpellsOne}
+use Rattle.spelling.specs.Exactly.{SpellsOneBook}
 use Rattle.spelling.proofs.Lexical.{count_on, kind_on}
 use Rattle.spelling.proofs.Through.{worded}
 
@@ -116,8 +116,8 @@ draft_alone text d e x y =
     let lines = sym ((lines_are_spelled 0 text y.lines).1 y.lined) ∙ (lines_are_spelled 0 text x.lines).1 x.lined in
     lines_one x.lines d e x.spelled (subst (λ ls. LinesSpell ls e) lines y.spelled)
 
-pub spells_one : SpellsOne
-spells_one text = record {
+pub spells_one_book : SpellsOneBook
+spells_one_book text = record {
   draft = draft_alone text;
   book = λ b t xs c u ys x y.
       let same = draft_alone text x.draft y.draft x.spells y.spells in

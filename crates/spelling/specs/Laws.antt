@@ -1,12 +1,12 @@
 -- The laws of reading.
-use Rattle.std.specs.Prelude.{◌≡◌, ℕ, ◌+◌, ◌-◌, ◌<◌, ◌≤◌, ◌⊎◌, ◌↔◌, List, map, length, take, Ok, Err, Result, ◌≢◌}
+use Rattle.std.specs.Prelude.{◌≡◌, ℕ, ◌+◌, ◌-◌, ◌≤◌, ◌⊎◌, List, [], map, length, take, Ok, Err, Result, ◌≢◌}
 use Rattle.text.specs.Lines.{lines_at}
 use Rattle.reader.specs.declared.fault.Cause.{Cause}
 use Rattle.reader.specs.declared.fault.Cause.TheVariants.{Byte, Form, Count, Unknown, Room, Lines}
 use Rattle.reader.specs.declared.fault.ReadFault.{ReadFault}
 use Rattle.reader.specs.declared.desk.Sizes.{Sizes}
 use Rattle.reader.specs.Held.{words_in}
-use Rattle.reader.specs.Reads.{Lent, rooms_in, Holds, Blank, padded, name_of, no_name}
+use Rattle.reader.specs.Reads.{Lent, Holds, Blank, padded, name_of, no_name}
 use Rattle.rules.specs.Books.{BookMeaning}
 use Rattle.sheets.specs.Layout.{layout}
 use Rattle.sheets.specs.Laws.{Fitting}
@@ -17,28 +17,18 @@ use Rattle.text.specs.declared.words.Name.{Name}
 use Rattle.reader.specs.Format.{Rooms, Memo, read_text}
 use Rattle.spelling.specs.Draft.{Draft, Spells, LinesSpell, put_down}
 use Rattle.spelling.specs.Book.{SpellsBook, book_of, targets_of}
-use Rattle.spelling.specs.Room.{FitsIn, NoRoom}
 
 -- a text that is read spells what it is read as
 abbrev pub ReadSpells : Type 0
 ReadSpells = (rooms : Rooms) (text : List ℕ) (m : Memo) → read_text rooms text ≡ Ok m → (d : Draft) × Spells text d × (m ≡ put_down d)
 
--- and it is short enough, and what is read of it fits in
-abbrev pub ReadFits : Type 0
-ReadFits = (lent : Lent) (text : List ℕ) (m : Memo) → read_text (rooms_in lent) text ≡ Ok m → (length text ≤ 65536) × FitsIn lent m
-
--- a text that is short enough and spells what fits in is read as what it spells
+-- a text that spells and is short enough is read as what it spells, or no place is left
 abbrev pub SpelledReads : Type 0
-SpelledReads = (lent : Lent) (text : List ℕ) (d : Draft) → length text ≤ 65536 → Spells text d → FitsIn lent (put_down d) → read_text (rooms_in lent) text ≡ Ok (put_down d)
-
--- the text spells one draft at most, and so one book, one list of targets and one list of names
-pub record One (text : List ℕ) : Type 0 where
-  pub draft : (d e : Draft) → Spells text d → Spells text e → d ≡ e
-  pub book : (b t : BookMeaning) (ns : List Word) (c u : BookMeaning) (ms : List Word) → SpellsBook text b t ns → SpellsBook text c u ms → (b ≡ c) × (t ≡ u) × (ns ≡ ms)
+SpelledReads = (rooms : Rooms) (text : List ℕ) (d : Draft) → length text ≤ 65536 → Spells text d → (read_text rooms text ≡ Ok (put_down d)) ⊎ ((n : ℕ) × (read_text rooms text ≡ Err (record { cause = Room; line = n })))
 
 -- no text spells two things
 abbrev pub SpellsOne : Type 0
-SpellsOne = (text : List ℕ) → One text
+SpellsOne = (text : List ℕ) (d e : Draft) → Spells text d → Spells text e → put_down d ≡ put_down e
 
 -- refused for a byte, a form, a count or a variable at line n: no text with the same first n lines spells anything
 abbrev pub RefusedSpellsNothing : Type 0
@@ -48,22 +38,18 @@ RefusedSpellsNothing = (rooms : Rooms) (text other : List ℕ) (e : Cause) (n : 
 abbrev pub RefusedLines : Type 0
 RefusedLines = (rooms : Rooms) (text : List ℕ) (n : ℕ) → read_text rooms text ≡ Err (record { cause = Lines; line = n }) → (n ≡ length (lines_at 0 text) + 1) ⊎ ((d : Draft) × LinesSpell (take (n - 1) (lines_at 0 text)) d)
 
--- refused for want of a place at line n, exactly if the text is too long or its line n finds no place
-abbrev pub RefusedRoom : Type 0
-RefusedRoom = (lent : Lent) (text : List ℕ) (n : ℕ) → (read_text (rooms_in lent) text ≡ Err (record { cause = Room; line = n })) ↔ NoRoom text lent n
-
 -- no text with the same first n lines spells anything
 abbrev pub Hopeless : List ℕ → ℕ → Type 0
 Hopeless text n = (other : List ℕ) → take n (lines_at 0 other) ≡ take n (lines_at 0 text) → (d : Draft) → Spells other d → ⊥
 
--- what a refusal says of the text
-abbrev pub Why : List ℕ → Lent → ℕ → Cause → Type 0
-Why text lent n Byte = Hopeless text n
-Why text lent n Form = Hopeless text n
-Why text lent n Count = Hopeless text n
-Why text lent n Unknown = Hopeless text n
-Why text lent n Room = NoRoom text lent n
-Why text lent n Lines = (n ≡ length (lines_at 0 text) + 1) ⊎ ((d : Draft) × LinesSpell (take (n - 1) (lines_at 0 text)) d)
+-- what a refusal says of the text; of no place left the reader's own definition says where
+abbrev pub Why : List ℕ → ℕ → Cause → Type 0
+Why text n Byte = Hopeless text n
+Why text n Form = Hopeless text n
+Why text n Count = Hopeless text n
+Why text n Unknown = Hopeless text n
+Why text n Room = Unit {0}
+Why text n Lines = (n ≡ length (lines_at 0 text) + 1) ⊎ ((d : Draft) × LinesSpell (take (n - 1) (lines_at 0 text)) d)
 
 -- the places hold a book and its targets laid out as sheets, and the names, and else zero
 pub record LaidOut (text : List ℕ) (n : Lent) (book aims : BookMeaning) (known : List Word) (rs ts : List ℕ) (ns : List Name) : Type 0 where
@@ -78,22 +64,21 @@ pub record OpensAs (words : List ℕ) (book : BookMeaning) : Type 0 where
   pub passes : sheet_end words ≡ Ok (length (layout book))
   pub means : sheet_meaning words ≡ book
 
--- the text spells a book and targets that fit in, and the places hold what it spells, in sheets that open as that
+-- the text spells a book and targets, one only, and the places hold what it spells, in sheets that open as that
 pub record Told (text : List ℕ) (n : Lent) (s : Sizes) (rs ts : List ℕ) (ns : List Name) : Type 0 where
   pub draft : Draft
   pub spells : Spells text draft
-  pub short : length text ≤ 65536
-  pub fits : (d : Draft) → Spells text d → FitsIn n (put_down d)
   pub holds : (d : Draft) → Spells text d → Holds text n (put_down d) s rs ts ns
   pub spelled : SpellsBook text (book_of draft) (targets_of draft) (put_down draft).names
+  pub alone : (b t : BookMeaning) (ns : List Word) (c u : BookMeaning) (ms : List Word) → SpellsBook text b t ns → SpellsBook text c u ms → (b ≡ c) × (t ≡ u) × (ns ≡ ms)
   pub opens : (book targets : BookMeaning) (names : List Word) → SpellsBook text book targets names → OpensAs rs book × OpensAs ts targets
   pub laid_out : (book targets : BookMeaning) (names : List Word) → SpellsBook text book targets names → LaidOut text n book targets names rs ts ns
 
--- all places are zero, and the refusal says why; a text that spells something is refused only if it is too long or that does not fit in
+-- all places are zero, and the refusal says why; a text that spells something is refused only for want of room
 pub record TurnedDown (text : List ℕ) (n : Lent) (e : ReadFault) (rs ts : List ℕ) (ns : List Name) : Type 0 where
   pub blank : Blank n rs ts ns
-  pub why : Why text n e.line e.cause
-  pub only_room : (d : Draft) → Spells text d → (e.cause ≡ Room) × ((65536 < length text) ⊎ (FitsIn n (put_down d) → ⊥))
+  pub why : Why text e.line e.cause
+  pub only_room : (d : Draft) → Spells text d → e.cause ≡ Room
 
 abbrev pub Tells : List ℕ → Lent → Result Sizes ReadFault → List ℕ → List ℕ → List Name → Type 0
 Tells text n (Ok s) rs ts ns = Told text n s rs ts ns

@@ -1,5 +1,6 @@
 // The laws of reading.
-ghost use Rattle.spelling.specs.Laws.{ReadSpells, ReadFits, SpelledReads, SpellsOne, RefusedSpellsNothing, RefusedLines, RefusedRoom};
+ghost use Rattle.spelling.specs.Laws.{ReadSpells, SpelledReads, SpellsOne, RefusedSpellsNothing, RefusedLines};
+ghost use Rattle.spelling.specs.Exactly.{ReadFits, FittingReads, SpellsOneBook, RefusedRoom};
 ghost use Rattle.spelling.specs.Room.{WholePutDown, FirstPutDown};
 
 // A text is read exactly if it is at most 65,536 bytes long and spells a book and targets that fit in the lent places,
@@ -9,11 +10,13 @@ ghost use Rattle.spelling.specs.Room.{WholePutDown, FirstPutDown};
 // the lines before put down fits in and with this line does not.
 pub fn reading_stands()
     ensures read { ReadSpells }
-    ensures fits { ReadFits }
     ensures spelled { SpelledReads }
     ensures one { SpellsOne }
     ensures refused { RefusedSpellsNothing }
     ensures lines { RefusedLines }
+    ensures fits { ReadFits }
+    ensures fitting { FittingReads }
+    ensures alone { SpellsOneBook }
     ensures room { RefusedRoom }
 {}
 

@@ -3,6 +3,7 @@ ghost use Rattle.std.specs.Prelude.{length};
 ghost use Rattle.reader.specs.Format.{read_text};
 ghost use Rattle.reader.specs.Reads.{lent, rooms_in, Reads};
 ghost use Rattle.spelling.specs.Laws.{Tells};
+ghost use Rattle.spelling.specs.Exactly.{TellsExactly};
 
 use reader::desk::Sizes;
 use reader::fault::ReadFault;
@@ -26,6 +27,7 @@ pub fn read(
         result rules.new targets.new names.new }
     ensures tells { Tells text.now (lent rules.old targets.old names.old)
         result rules.new targets.new names.new }
+    ensures exactly { TellsExactly text.now (lent rules.old targets.old names.old) result }
 {
     // what is laid out passes the sheet's check and reads back
     layout_stands();

@@ -1,4 +1,4 @@
-use Rattle.std.proofs.Common.{◌≡◌, ℕ, ◌≤◌, Bool, true, false, cond, ◌&&◌, ◌||◌, eqb, leb, List, [], ◌∷◌, Ok, Err, refl, inl, inr, ⊎_elim, arith}
+use Rattle.std.proofs.Common.{◌≡◌, ℕ, Bool, true, false, cond, eqb, leb, [], ◌∷◌, Err, refl, ⊎_elim, arith}
 use Rattle.std.proofs.lemmas.Bool.{cases_Bool, leb-true, ne_eqb, and_left, and_right, or_from}
 use Rattle.sheets.specs.Walk.{Out, then, has, passes}
 use Rattle.rules.specs.declared.fault.BookFault.{BookFault}

@@ -1,5 +1,5 @@
-use Rattle.std.proofs.Common.{◌≡◌, ◌+◌, get_or, sym, ap, ◌∙◌, arith}
-use Rattle.sheets.specs.Reads.{slots, left_in, left_place}
+use Rattle.std.proofs.Common.{◌+◌, get_or, sym, ap, arith}
+use Rattle.sheets.specs.Reads.{left_in, left_place}
 use Rattle.sheets.specs.Slots.{slots_nth, slots_past}
 use Rattle.sheets.proofs.reads.left_in.Goals as goal
 

@@ -1,6 +1,6 @@
-use Rattle.std.proofs.Common.{◌≡◌, ◌+◌, ◌*◌, get_or, sym, refl, ap, ◌∙◌, arith}
+use Rattle.std.proofs.Common.{◌+◌, ◌*◌, get_or, sym, ap, arith}
 use Rattle.sheets.specs.Walk.{pair_size}
-use Rattle.sheets.specs.Reads.{slots, pair_in, kind_of, pair_place}
+use Rattle.sheets.specs.Reads.{pair_in, kind_of, pair_place}
 use Rattle.sheets.specs.Slots.{slots_past}
 use Rattle.sheets.proofs.Sides.{pair_functional, pair_equality}
 use Rattle.sheets.proofs.reads.pair_in.Goals as goal

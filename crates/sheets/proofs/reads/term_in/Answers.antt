@@ -1,4 +1,4 @@
-use Rattle.std.proofs.Common.{◌≡◌, ◌+◌, ◌*◌, get_or, sym, ap, ◌∙◌, arith}
+use Rattle.std.proofs.Common.{◌+◌, ◌*◌, get_or, sym, arith}
 use Rattle.sheets.specs.Reads.{slots, term_in}
 use Rattle.sheets.specs.Slots.{slots_nth, slots_past}
 use Rattle.sheets.proofs.reads.term_in.Goals as goal

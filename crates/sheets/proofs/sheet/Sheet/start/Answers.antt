@@ -1,4 +1,4 @@
-use Rattle.std.proofs.Common.{◌≡◌, arith, rules}
+use Rattle.std.proofs.Common.{arith, rules}
 use Rattle.sheets.proofs.Founds.{few, found, none}
 use Rattle.sheets.proofs.sheet.Sheet.start.Goals as goal
 
