@@ -6,7 +6,7 @@ use Rattle.std.proofs.lemmas.List.{drop_more}
 use Rattle.std.specs.Option.{option_map}
 use Rattle.rules.specs.declared.term.Term.{Term}
 use Rattle.rules.specs.declared.term.Kind.TheVariants.{Equality}
-use Rattle.rules.specs.Rules.{◌∈◌, Pattern, Rule}
+use Rattle.rules.specs.Rules.{◌∈◌, Rule}
 use Rattle.rules.specs.Books.{BookMeaning, WellFormed, WellFormedBook, within, kind_at, rows_at, term_at, left_at, pair_at}
 use Rattle.listing.specs.Listing.{written, row_at, rule_text, rules_text}
 

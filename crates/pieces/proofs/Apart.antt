@@ -1,5 +1,5 @@
 -- A word is found again by its bytes.
-use Rattle.std.proofs.Common.{◌≡◌, ℕ, Bool, cond, List, sym, refl, ap, ◌∙◌}
+use Rattle.std.proofs.Common.{◌≡◌, ℕ, cond, List, sym, refl, ap, ◌∙◌}
 use Rattle.std.specs.Str.{bytes_eq}
 use Rattle.pieces.specs.declared.word.Word.{Word}
 use Rattle.pieces.specs.declared.word.Word.TheVariants as word

@@ -1,18 +1,18 @@
 -- One line at a time, and one call after another.
-use Rattle.std.proofs.Common.{◌≡◌, ℕ, zero, suc, ◌+◌, ◌-◌, ◌<◌, ◌≤◌, min, true, false, cond, List, [], ◌∷◌, ◌++◌, length, drop, replicate, Ok, Err, Result, sym, refl, ap, ◌∙◌, subst, add-one, arith}
+use Rattle.std.proofs.Common.{◌≡◌, ℕ, zero, suc, ◌+◌, ◌-◌, ◌<◌, ◌≤◌, true, false, List, [], ◌∷◌, ◌++◌, length, drop, replicate, Ok, Err, Result, sym, refl, ap, ◌∙◌, subst, add-one, arith}
 use Rattle.std.specs.List.{prefix_len}
 use Rattle.std.proofs.lemmas.List.{drop_all}
 use Rattle.text.proofs.Split.{line_next}
 use Rattle.std.proofs.lemmas.Bool.{cond-true, cond-false}
-use Rattle.text.specs.Lines.{Line, clean, lines_at, lines_from, line_at, in_line}
+use Rattle.text.specs.Lines.{clean, lines_at, lines_from, line_at, in_line}
 use Rattle.text.specs.Words.{line_words}
 use Rattle.text.specs.declared.list.Places.{Places}
-use Rattle.text.specs.Filled.{room, Same}
+use Rattle.text.specs.Filled.{Same}
 use Rattle.reader.specs.declared.fault.Cause.{Cause}
 use Rattle.reader.specs.declared.fault.Cause.TheVariants.{Byte, Lines}
 use Rattle.reader.specs.declared.fault.ReadFault.{ReadFault}
 use Rattle.reader.specs.declared.desk.Cursor.{Cursor}
-use Rattle.reader.specs.Format.{places, Rooms, Memo, Due, Step, Out, words_line, read_line, follow, read_lines}
+use Rattle.reader.specs.Format.{places, Rooms, Memo, Due, Step, Out, words_line, follow, read_lines}
 use Rattle.reader.specs.Held.{Desk, Sames, rooms_of, stepped}
 use Rattle.reader.specs.Goes.{going, Takes}
 use Rattle.reader.proofs.Numbered.{room-same}

@@ -1,18 +1,16 @@
 -- Words by their numbers.
-use Rattle.std.proofs.Common.{◌≡◌, ℕ, suc, ◌+◌, ◌-◌, ◌<◌, ◌≤◌, min, Bool, true, false, cond, not, ◌&&◌, ltb, List, [], ◌∷◌, ◌++◌, map, length, take, drop, Ok, Err, sym, refl, ap, ◌∙◌, subst, le_trans, arith, length-drop}
+use Rattle.std.proofs.Common.{◌≡◌, ℕ, ◌<◌, ◌≤◌, min, ltb, List, [], ◌∷◌, ◌++◌, map, length, Ok, Err, sym, refl, ap, ◌∙◌, le_trans}
 use native.Mathlib.Nat.{min-le_left}
 use lib.ListN.{length-map}
-use Rattle.std.specs.List.{AllByRecursion as All}
 use Rattle.std.proofs.lemmas.List.{map_push, length-take-le}
-use Rattle.std.proofs.ByRecursion.{All-push}
 use Rattle.std.proofs.lemmas.Bool.{cond-true, cond-false, lt-ltb, le-ltb}
 use Rattle.text.specs.declared.list.Places.{Places}
 use Rattle.text.specs.declared.words.Name.{Name}
 use Rattle.text.specs.Filled.{items, room, Same}
-use Rattle.text.specs.Words.{Word, word_in, part, bytes_of}
+use Rattle.text.specs.Words.{word_in, part, bytes_of}
 use Rattle.reader.specs.declared.fault.Cause.TheVariants.{Room}
-use Rattle.reader.specs.Format.{places, Out, number_of, seen_with, pushed}
-use Rattle.reader.specs.Held.{words_in, Inside, Within, Fine}
+use Rattle.reader.specs.Format.{places, number_of, seen_with, pushed}
+use Rattle.reader.specs.Held.{words_in, Within}
 
 pub bytes_words_in : (t : List ℕ) (ns : List Name) → bytes_of (words_in t ns) ≡ map (part t) ns
 bytes_words_in t [] = refl

@@ -1,5 +1,5 @@
 -- The format: what the next line must be, what it puts down, and what it is refused for.
-use Rattle.std.specs.Prelude.{◌≡◌, ℕ, suc, ◌+◌, ◌-◌, Bool, true, false, cond, not, ◌&&◌, ◌||◌, List, [], ◌∷◌, ◌++◌, map, length, replicate, Some, None, Ok, Err, codes, Option, Result, ◌==◌, nat_le, nat_lt}
+use Rattle.std.specs.Prelude.{ℕ, suc, ◌+◌, Bool, true, cond, not, ◌&&◌, ◌||◌, List, [], ◌∷◌, ◌++◌, length, replicate, Some, None, Ok, Err, codes, Option, Result, ◌==◌, nat_le, nat_lt}
 use Rattle.text.specs.Lines.{Line, clean, lines_at}
 use Rattle.text.specs.Words.{Word, words_at, bytes_of, same_word, number_in, is_variable, is_term}
 use Rattle.text.specs.Counts.{count_of}

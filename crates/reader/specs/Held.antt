@@ -1,5 +1,5 @@
 -- What the reader's lists hold, as parts of the text.
-use Rattle.std.specs.Prelude.{◌≡◌, ℕ, suc, ◌+◌, ◌-◌, ◌≤◌, List, [], ◌∷◌, ◌++◌, map, length, replicate, Ok, Err, Result, MatchResult}
+use Rattle.std.specs.Prelude.{◌≡◌, ℕ, ◌+◌, ◌≤◌, List, map, length, Ok, Err, Result, MatchResult}
 use Rattle.std.specs.List.{AllByRecursion as All}
 use Rattle.text.specs.declared.list.Places.{Places}
 use Rattle.text.specs.declared.words.Name.{Name}

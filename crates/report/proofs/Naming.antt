@@ -17,7 +17,8 @@ use Rattle.writing.specs.Enough.{SmallRow, Small, Modest}
 use Rattle.outcomes.specs.Due.{DueAt}
 use Rattle.outcomes.specs.Laws.{Below, ConstantsBelow, Named}
 use Rattle.outcomes.proofs.All.{outcomes_due}
-use Rattle.report.specs.Reported.{EachDue, RowsNamed, OutcomesOf}
+use Rattle.report.specs.Reported.{EachDue}
+use Rattle.report.specs.Answered.{RowsNamed, OutcomesOf}
 use Rattle.report.proofs.Tried.{nth_member, target_fits}
 
 from_mem : {X : Type 0} (P : X → Type 0) (xs : List X) → ((x : X) → x ∈ xs → P x) → All P xs

@@ -17,7 +17,8 @@ use Rattle.writing.proofs.Lengths.{refusal_enough}
 use Rattle.report.specs.declared.fault.ReportFault.{ReportFault}
 use Rattle.report.specs.declared.fault.ReportFault.TheVariants.{Reading}
 use Rattle.report.specs.Faults.{report_refusal, short_fault}
-use Rattle.report.specs.Reported.{names_in, ToldOf, Printed}
+use Rattle.report.specs.Reported.{names_in}
+use Rattle.report.specs.Answered.{AnswerOf, Printed}
 use Rattle.report.proofs.Single.{always_fits}
 
 never_ok : {A : Type 0} (n : ℕ) (f : ReportFault) → ◌≡◌ {A = Result ℕ ReportFault} (Ok n) (Err f) → A
@@ -30,7 +31,7 @@ never_true e = let z : ◌≡◌ {A = ℕ} 0 1 = cc in absurd (omega arith)
 pub front : (size : ℕ) (ps : List (List ℕ)) (n : ℕ) (out : List ℕ) → Fits size ps n out → take n out ≡ whole ps
 front size ps n out f = ap (λ xs. take n xs) f.holds ∙ ap (λ k. take k (whole ps ++ replicate (size - n) 0)) f.long ∙ take-append_seam (whole ps) (replicate (size - n) 0)
 
-pub printed_ok : (o : Result Memo ReadFault) (text : List ℕ) (l : Lent) (room n : ℕ) (rs ts : List ℕ) (ns : List Name) (out : List ℕ) → ToldOf o text l room (Ok n) rs ts ns out → Printed o text l (take n out)
+pub printed_ok : (o : Result Memo ReadFault) (text : List ℕ) (l : Lent) (room n : ℕ) (rs ts : List ℕ) (ns : List Name) (out : List ℕ) → AnswerOf o text l room (Ok n) rs ts ns out → Printed o text l (take n out)
 printed_ok (Err e) text l room n rs ts ns out h = never_ok n (Reading e) h.0
 printed_ok (Ok m) text l room n rs ts ns out h = record { outcomes = h.outcomes; answered = h.answered; is = front room (parts text (names_in l m) h.outcomes) n out h.writes }
 
@@ -38,7 +39,7 @@ same_fault : (f g : ReportFault) → ◌≡◌ {A = Result ℕ ReportFault} (Err
 same_fault f g e = cc
 
 pub printed_err : (o : Result Memo ReadFault) (text : List ℕ) (l : Lent) (room : ℕ) (f : ReportFault) (rs ts : List ℕ) (ns : List Name) (out : List ℕ) → read_text (rooms_in l) text ≡ o → enough ≤ room →
-    ToldOf o text l room (Err f) rs ts ns out → Printed o text l (refusal_text (report_refusal f))
+    AnswerOf o text l room (Err f) rs ts ns out → Printed o text l (refusal_text (report_refusal f))
 printed_err (Err e) text l room f rs ts ns out q long h = ap (λ g. refusal_text (report_refusal g)) (same_fault f (Reading e) h.0)
 printed_err (Ok m) text l room f rs ts ns out q long h =
     let fits = always_fits l text m q h.outcomes h.answered in

@@ -19,8 +19,9 @@ use Rattle.outcomes.specs.Due.{Due, DueAt}
 use Rattle.outcomes.proofs.All.{outcomes_due}
 use Rattle.report.specs.declared.fault.ReportFault.{ReportFault}
 use Rattle.report.specs.Faults.{short_fault}
-use Rattle.report.specs.Reported.{EachDue, OutcomesOf, names_in, HoldsRead, PlacesAfter, Answered, Reported, ToldOf, PrintedReport, Printed}
-use Rattle.report.specs.Laws.{OneReport, OnePrinted}
+use Rattle.report.specs.Reported.{Sound, Reported, EachDue, names_in, HoldsRead}
+use Rattle.report.specs.Answered.{OutcomesOf, LentAfter, Answered, AnswerOf, PrintedReport, Printed, OneAnswer, OnePrinted}
+use Rattle.report.specs.Laws.{OneReport}
 use Rattle.report.proofs.Tried.{target_fits}
 use Rattle.report.proofs.Naming.{modest}
 use Rattle.report.proofs.Sounds.{ReadAs, answered_as}
@@ -46,6 +47,14 @@ module _ (b : BookMeaning) (book_fits : WellFormedBook b) (ts : BookMeaning) (ta
       let rest = each-one (i + 1) os os' (omega arith) d.1 d'.1 in
       λ k. this k ∷ rest k
 
+pub one_report : OneReport
+one_report rules targets sound text names room r r' out out' f f' =
+    let same =
+    each-one (sheet_meaning rules) sound.rules_pass.fitting.well (sheet_meaning targets) sound.targets_pass.fitting.well sound.one_width 0 f.outcomes f'.outcomes
+    (f.long ∙ sym f'.long) f.each f'.each in
+    alike.one ReportFault short_fault room (parts text names f.outcomes) r r' out out' f.writes
+    (subst (λ (os : List Outcome). Writes short_fault room (parts text names os) r' out') (sym same) f'.writes)
+
 -- two books laid out alike are one
 laid_alike : WrittenPasses → (b c : BookMeaning) → Fitting b → Fitting c → layout b ≡ layout c → b ≡ c
 laid_alike written b c fb fc e =
@@ -62,19 +71,19 @@ module _ (written : WrittenPasses) (l : Lent) (text : List ℕ) where
       let due : OutcomesOf a.book a.targets os' = subst (λ (z : BookMeaning). OutcomesOf z a.targets os') book (subst (λ (z : BookMeaning). OutcomesOf a'.book z os') targets a'.due) in
       each-one a.book f.book_fits.well a.targets f.targets_fit.well f.one_width 0 os os' (a.due.long ∙ sym due.long) a.due.each due.each
 
-  places_one : (m : Memo) (r : Result ℕ ReportFault) (rs rs' ts ts' : List ℕ) (ns ns' : List Name) → PlacesAfter r l m rs ts ns → PlacesAfter r l m rs' ts' ns' → (rs ≡ rs') × (ts ≡ ts') × (ns ≡ ns')
+  places_one : (m : Memo) (r : Result ℕ ReportFault) (rs rs' ts ts' : List ℕ) (ns ns' : List Name) → LentAfter r l m rs ts ns → LentAfter r l m rs' ts' ns' → (rs ≡ rs') × (ts ≡ ts') × (ns ≡ ns')
   places_one m (Ok n) rs rs' ts ts' ns ns' h h' = (h.rules ∙ sym h'.rules, h.targets ∙ sym h'.targets, h.names ∙ sym h'.names)
   places_one m (Err e) rs rs' ts ts' ns ns' h h' = (h.rules ∙ sym h'.rules, h.targets ∙ sym h'.targets, h.names ∙ sym h'.names)
 
   told-one : (o : Result Memo ReadFault) → read_text (rooms_in l) text ≡ o → (room : ℕ) (r r' : Result ℕ ReportFault) (rs rs' ts ts' : List ℕ) (ns ns' : List Name) (out out' : List ℕ) →
-      ToldOf o text l room r rs ts ns out → ToldOf o text l room r' rs' ts' ns' out' → (r ≡ r') × (rs ≡ rs') × (ts ≡ ts') × (ns ≡ ns') × (out ≡ out')
+      AnswerOf o text l room r rs ts ns out → AnswerOf o text l room r' rs' ts' ns' out' → (r ≡ r') × (rs ≡ rs') × (ts ≡ ts') × (ns ≡ ns') × (out ≡ out')
   told-one (Err e) q room r r' rs rs' ts ts' ns ns' out out' (x, b, z) (x', b', z') =
       (x ∙ sym x', b.rules ∙ sym b'.rules, b.targets ∙ sym b'.targets, b.names ∙ sym b'.names, z ∙ sym z')
   told-one (Ok m) q room r r' rs rs' ts ts' ns ns' out out' f f' =
       let same = outcomes_one m q f.outcomes f'.outcomes f.answered f'.answered in
       let one = alike.one ReportFault short_fault room (parts text (names_in l m) f.outcomes) r r' out out' f.writes
       (subst (λ (os : List Outcome). Writes short_fault room (parts text (names_in l m) os) r' out') (sym same) f'.writes) in
-      let p = places_one m r rs rs' ts ts' ns ns' f.places (subst (λ (q : Result ℕ ReportFault). PlacesAfter q l m rs' ts' ns') (sym one.0) f'.places) in
+      let p = places_one m r rs rs' ts ts' ns ns' f.places (subst (λ (q : Result ℕ ReportFault). LentAfter q l m rs' ts' ns') (sym one.0) f'.places) in
       (one.0, p.0, p.1, p.2, one.1)
 
   printed_one : (o : Result Memo ReadFault) → read_text (rooms_in l) text ≡ o → (bytes bytes' : List ℕ) → Printed o text l bytes → Printed o text l bytes' → bytes ≡ bytes'
@@ -82,8 +91,8 @@ module _ (written : WrittenPasses) (l : Lent) (text : List ℕ) where
   printed_one (Ok m) q bytes bytes' f f' =
       f.is ∙ ap (λ (os : List Outcome). whole (parts text (names_in l m) os)) (outcomes_one m q f.outcomes f'.outcomes f.answered f'.answered) ∙ sym f'.is
 
-pub one_report : WrittenPasses → OneReport
-one_report written l text room r r' rs rs' ts ts' ns ns' out out' f f' = told-one written l text (read_text (rooms_in l) text) refl room r r' rs rs' ts ts' ns ns' out out' f f'
+pub one_answer : WrittenPasses → OneAnswer
+one_answer written l text room r r' rs rs' ts ts' ns ns' out out' f f' = told-one written l text (read_text (rooms_in l) text) refl room r r' rs rs' ts ts' ns ns' out out' f f'
 
 pub one_printed : WrittenPasses → OnePrinted
 one_printed written l text bytes bytes' f f' = printed_one written l text (read_text (rooms_in l) text) refl bytes bytes' f f'

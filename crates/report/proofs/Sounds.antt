@@ -11,7 +11,7 @@ use Rattle.text.specs.Words.{Word}
 use Rattle.reader.specs.declared.fault.ReadFault.{ReadFault}
 use Rattle.reader.specs.Format.{Memo, read_text}
 use Rattle.reader.specs.Reads.{Lent, rooms_in, padded}
-use Rattle.spelling.specs.Draft.{Draft, put_down}
+use Rattle.spelling.specs.Draft.{Draft, Spells, put_down}
 use Rattle.spelling.specs.Book.{SpellsBook, book_of, targets_of}
 use Rattle.spelling.proofs.Theorems.{read-spells}
 use Rattle.spelling.proofs.Telling.{few_names}
@@ -19,9 +19,8 @@ use Rattle.spelling.proofs.Laid.{laid}
 use Rattle.spelling.proofs.Fits.{fitting}
 use Rattle.spelling.proofs.Named.{RuleBelow, Short, named}
 use Rattle.report.specs.declared.fault.ReportFault.{ReportFault}
-use Rattle.report.specs.Reported.{names_in, OutcomesOf, Answered, Reported, ToldOf}
-use Rattle.report.specs.Filling.{Sound}
-use Rattle.report.proofs.Whole.{rules_in, targets_in, WrittenOut, ReportOf}
+use Rattle.report.specs.Reported.{Sound, Reported, rules_in, targets_in, names_in, PlacesAfter, ReportOf, ToldOf, AsSpelled}
+use Rattle.report.specs.Answered.{OutcomesOf, LentAfter, Answered, WholeReport, AnswerOf}
 use Rattle.report.proofs.Naming.{all_named}
 
 -- what was read is what the text spells, in books that a sheet can hold and with names for all constants
@@ -77,9 +76,13 @@ sheet_of written passing b size words fit e =
     ((passing (padded size 0 words) (length (layout b)) (ap sheet_end same ∙ p.0)).1, ap sheet_meaning same ∙ p.1)
 
 module _ (written : WrittenPasses) (passing : PassingIsWritten) (l : Lent) (text : List ℕ) where
-  told-ok : (m : Memo) → read_text (rooms_in l) text ≡ Ok m → (room : ℕ) (r : Result ℕ ReportFault) (rs ts : List ℕ) (ns : List Name) (out : List ℕ) →
-      ReportOf (Ok m) text l room r rs ts ns out → Reported text l m room r rs ts ns out
-  told-ok m q room r rs ts ns out h =
+  lent_after : (m : Memo) (room : ℕ) (r : Result ℕ ReportFault) (rs ts : List ℕ) (ns : List Name) (out : List ℕ) → PlacesAfter r l m room rs ts ns out → LentAfter r l m rs ts ns
+  lent_after m room (Ok n) rs ts ns out h = h
+  lent_after m room (Err e) rs ts ns out h = h.0
+
+  answer_ok : (m : Memo) → read_text (rooms_in l) text ≡ Ok m → (room : ℕ) (r : Result ℕ ReportFault) (rs ts : List ℕ) (ns : List Name) (out : List ℕ) →
+      ReportOf (Ok m) text l room r rs ts ns out → WholeReport text l m room r rs ts ns out
+  answer_ok m q room r rs ts ns out h =
       let d = read-spells (rooms_in l) text m q in
       let book = book_of d.0 in
       let targets = targets_of d.0 in
@@ -98,8 +101,9 @@ module _ (written : WrittenPasses) (passing : PassingIsWritten) (l : Lent) (text
         one_width = ap (λ (z : BookMeaning). z.width) b.1 ∙ sym (ap (λ (z : BookMeaning). z.width) a.1);
       } in
       let o = h.1 sound in
+      let was : OutcomesOf (sheet_meaning (rules_in l m)) (sheet_meaning (targets_in l m)) o.outcomes = record { long = o.long; each = o.each } in
       let due : OutcomesOf book targets o.outcomes = subst (λ (z : BookMeaning). OutcomesOf book z o.outcomes) b.1
-      (subst (λ (z : BookMeaning). OutcomesOf z (sheet_meaning (targets_in l m)) o.outcomes) a.1 o.due) in
+      (subst (λ (z : BookMeaning). OutcomesOf z (sheet_meaning (targets_in l m)) o.outcomes) a.1 was) in
       record {
         outcomes = o.outcomes;
         answered = record {
@@ -114,11 +118,29 @@ module _ (written : WrittenPasses) (passing : PassingIsWritten) (l : Lent) (text
           named = all_named book f.book_fits.well targets f.targets_fit.well f.one_width (length known) f.book_below f.targets_below 0 o.outcomes due.each;
         };
         writes = o.writes;
-        places = h.0;
+        places = lent_after m room r rs ts ns out h.0;
+      }
+
+  told_ok : (m : Memo) → read_text (rooms_in l) text ≡ Ok m → (room : ℕ) (r : Result ℕ ReportFault) (rs ts : List ℕ) (ns : List Name) (out : List ℕ) →
+      ReportOf (Ok m) text l room r rs ts ns out → AsSpelled text (names_in l m) room r out
+  told_ok m q room r rs ts ns out h =
+      let w = answer_ok m q room r rs ts ns out h in
+      let a = w.answered in
+      record {
+        book = a.book;
+        targets = a.targets;
+        known = a.known;
+        spelled = a.spelled;
+        reported = record { outcomes = w.outcomes; long = a.due.long; each = a.due.each; writes = w.writes };
       }
 
   -- by what the reader answers
   pub tells : (o : Result Memo ReadFault) → read_text (rooms_in l) text ≡ o → (room : ℕ) (r : Result ℕ ReportFault) (rs ts : List ℕ) (ns : List Name) (out : List ℕ) →
-      ReportOf o text l room r rs ts ns out → ToldOf o text l room r rs ts ns out
-  tells (Ok m) q room r rs ts ns out h = told-ok m q room r rs ts ns out h
-  tells (Err e) q room r rs ts ns out h = h
+      ReportOf o text l room r rs ts ns out → ToldOf o text l room r out
+  tells (Ok m) q room r rs ts ns out h = told_ok m q room r rs ts ns out h
+  tells (Err e) q room r rs ts ns out h = h.0
+
+  pub answers : (o : Result Memo ReadFault) → read_text (rooms_in l) text ≡ o → (room : ℕ) (r : Result ℕ ReportFault) (rs ts : List ℕ) (ns : List Name) (out : List ℕ) →
+      ReportOf o text l room r rs ts ns out → AnswerOf o text l room r rs ts ns out
+  answers (Ok m) q room r rs ts ns out h = answer_ok m q room r rs ts ns out h
+  answers (Err e) q room r rs ts ns out h = h

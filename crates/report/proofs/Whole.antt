@@ -4,7 +4,7 @@ use Rattle.sheets.specs.Reads.{sheet_meaning}
 use Rattle.text.specs.declared.words.Name.{Name}
 use Rattle.reader.specs.declared.fault.ReadFault.{ReadFault}
 use Rattle.reader.specs.Format.{Memo}
-use Rattle.reader.specs.Reads.{Lent, no_name, padded, Blank}
+use Rattle.reader.specs.Reads.{Lent, no_name, Blank}
 use Rattle.pieces.specs.declared.output.Output.{Output}
 use Rattle.pieces.specs.Put.{size, Same}
 use Rattle.writing.specs.Reports.{parts}
@@ -14,28 +14,7 @@ use Rattle.writing.proofs.Closed.{closes}
 use Rattle.report.specs.declared.fault.ReportFault.{ReportFault}
 use Rattle.report.specs.declared.fault.ReportFault.TheVariants.{Reading}
 use Rattle.report.specs.Faults.{short_fault}
-use Rattle.writing.specs.Outcomes.{Outcome}
-use Rattle.rules.specs.Books.{BookMeaning}
-use Rattle.report.specs.Reported.{OutcomesOf, names_in, HoldsRead, PlacesAfter}
-use Rattle.report.specs.Filling.{ReportFills, Sound, ReadsAndFills, kept}
-
-abbrev pub rules_in : Lent → Memo → List ℕ
-rules_in l m = padded l.rules 0 m.rules
-
-abbrev pub targets_in : Lent → Memo → List ℕ
-targets_in l m = padded l.targets 0 m.targets
-
--- the outcomes that are due, written into an output that is closed
-pub record WrittenOut (b targets : BookMeaning) (text : List ℕ) (names : List Name) (room : ℕ) (r : Result ℕ ReportFault) (out : List ℕ) : Type 0 where
-  pub outcomes : List Outcome
-  pub due : OutcomesOf b targets outcomes
-  pub writes : Writes short_fault room (parts text names outcomes) r out
-
--- by what the reader answers, on the sheets that were read
-abbrev pub ReportOf : Result Memo ReadFault → List ℕ → Lent → ℕ → Result ℕ ReportFault → List ℕ → List ℕ → List Name → List ℕ → Type 0
-ReportOf (Err e) text l room r rs ts ns out = (r ≡ Err (Reading e)) × Blank l rs ts ns × (out ≡ replicate room 0)
-ReportOf (Ok m) text l room r rs ts ns out =
-    PlacesAfter r l m rs ts ns × (Sound (rules_in l m) (targets_in l m) → WrittenOut (sheet_meaning (rules_in l m)) (sheet_meaning (targets_in l m)) text (names_in l m) room r out)
+use Rattle.report.specs.Reported.{Sound, Reported, ReportFills, rules_in, targets_in, names_in, HoldsRead, ReadsAndFills, kept, PlacesAfter, ReportOf}
 
 pub err_is : {E : Type 0} (e : E) (r : Result (Unit {0}) E) → IsErrAnd r (λ y. y ≡ e) → r ≡ Err e
 err_is e (Ok u) h = absurd h
@@ -47,13 +26,13 @@ blank_err l rs ts ns a b c = record { rules = ap (λ n. replicate n 0) a; target
 
 closed-reported : (text : List ℕ) (l : Lent) (m : Memo) (a b : Output) (put : Result (Unit {0}) ReportFault) (rs ts : List ℕ) (ns : List Name) → a.used ≡ 0 →
     HoldsRead l m rs ts ns → (Sound rs ts → ReportFills (sheet_meaning rs) (sheet_meaning ts) text ns a put b) →
-    Sound (rules_in l m) (targets_in l m) → WrittenOut (sheet_meaning (rules_in l m)) (sheet_meaning (targets_in l m)) text (names_in l m) (size a) (closed_answer b put) (closed_places b put)
+    Sound (rules_in l m) (targets_in l m) → Reported (sheet_meaning (rules_in l m)) (sheet_meaning (targets_in l m)) text (names_in l m) (size a) (closed_answer b put) (closed_places b put)
 closed-reported text l m a b put rs ts ns none holds fills sound =
     let f : ReportFills (sheet_meaning (rules_in l m)) (sheet_meaning (targets_in l m)) text (names_in l m) a put b =
     subst (λ (R : List ℕ). Sound R (targets_in l m) → ReportFills (sheet_meaning R) (sheet_meaning (targets_in l m)) text (names_in l m) a put b) holds.rules
     (subst (λ (T : List ℕ). Sound rs T → ReportFills (sheet_meaning rs) (sheet_meaning T) text (names_in l m) a put b) holds.targets
     (subst (λ (N : List Name). Sound rs ts → ReportFills (sheet_meaning rs) (sheet_meaning ts) text N a put b) holds.names fills)) sound in
-    record { outcomes = f.outcomes; due = f.due; writes = closes short_fault a b (parts text (names_in l m) f.outcomes) put none f.fills }
+    record { outcomes = f.outcomes; long = f.long; each = f.each; writes = closes short_fault a b (parts text (names_in l m) f.outcomes) put none f.fills }
 
 ok_err : (u : Unit {0}) (e : ReportFault) → ◌≡◌ {A = Result (Unit {0}) ReportFault} (Ok u) (Err e) → ⊥
 ok_err u e q = let z : ◌≡◌ {A = ℕ} 0 1 = cc in omega arith
@@ -66,7 +45,7 @@ closed : (o : Result Memo ReadFault) (text : List ℕ) (l : Lent) (a b : Output)
     ReportOf o text l (size a) (closed_answer b put) (kept put rs 0) (kept put ts 0) (kept put ns no_name) (closed_places b put)
 closed (Ok m) text l a b (Ok u) rs ts ns none same x y z told = (told.0, closed-reported text l m a b (Ok u) rs ts ns none told.0 told.1)
 closed (Ok m) text l a b (Err e) rs ts ns none same x y z told =
-    (blank_err l rs ts ns x y z, closed-reported text l m a b (Err e) rs ts ns none told.0 told.1)
+    ((blank_err l rs ts ns x y z, ap (λ n. replicate n 0) same.long), closed-reported text l m a b (Err e) rs ts ns none told.0 told.1)
 closed (Err e) text l a b (Ok u) rs ts ns none same x y z told = absurd (ok_err u (Reading e) told.0)
 closed (Err e) text l a b (Err d) rs ts ns none same x y z told =
     (err_whole d (Reading e) told.0, blank_err l rs ts ns x y z, ap (λ n. replicate n 0) same.long)

@@ -1,19 +1,16 @@
 -- The law of reports.
 use Rattle.std.specs.Prelude.{◌≡◌, ℕ, List, Result}
 use Rattle.text.specs.declared.words.Name.{Name}
-use Rattle.reader.specs.Format.{read_text}
-use Rattle.reader.specs.Reads.{Lent, rooms_in}
+use Rattle.reader.specs.Reads.{Lent}
+use Rattle.reader.specs.Format.{Memo}
+use Rattle.sheets.specs.Reads.{sheet_meaning}
 use Rattle.report.specs.declared.fault.ReportFault.{ReportFault}
-use Rattle.report.specs.Reported.{ToldOf, Printed}
+use Rattle.report.specs.Reported.{Sound, Reported}
 
--- Of a text, lent places and an output there is one answer, and the places then hold one thing: it does not depend on
--- which open spots were taken.
+-- Of two sheets there is exactly one answer, and one output.
 abbrev pub OneReport : Type 0
 OneReport =
-    (l : Lent) (text : List ℕ) (room : ℕ) (r r' : Result ℕ ReportFault) (rs rs' ts ts' : List ℕ) (ns ns' : List Name) (out out' : List ℕ) →
-    ToldOf (read_text (rooms_in l) text) text l room r rs ts ns out → ToldOf (read_text (rooms_in l) text) text l room r' rs' ts' ns' out' →
-    (r ≡ r') × (rs ≡ rs') × (ts ≡ ts') × (ns ≡ ns') × (out ≡ out')
-
--- and one thing is printed
-abbrev pub OnePrinted : Type 0
-OnePrinted = (l : Lent) (text bytes bytes' : List ℕ) → Printed (read_text (rooms_in l) text) text l bytes → Printed (read_text (rooms_in l) text) text l bytes' → bytes ≡ bytes'
+    (rules targets : List ℕ) → Sound rules targets → (text : List ℕ) (names : List Name) (room : ℕ)
+    (r r' : Result ℕ ReportFault) (out out' : List ℕ) →
+    Reported (sheet_meaning rules) (sheet_meaning targets) text names room r out →
+    Reported (sheet_meaning rules) (sheet_meaning targets) text names room r' out' → (r ≡ r') × (out ≡ out')

@@ -1,4 +1,4 @@
 pub mod Faults
 pub mod Reported
-pub mod Filling
 pub mod Laws
+pub mod Answered

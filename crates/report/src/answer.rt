@@ -4,7 +4,7 @@ ghost use Rattle.reader.specs.Format.{read_text};
 ghost use Rattle.reader.specs.Reads.{lent, rooms_in};
 ghost use Rattle.writing.specs.Reports.{refusal_text};
 ghost use Rattle.spelling.specs.Room.{most};
-ghost use Rattle.report.specs.Reported.{Printed};
+ghost use Rattle.report.specs.Answered.{Printed};
 
 use crate::report::report;
 use rules::refusal::Refusal;

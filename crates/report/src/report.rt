@@ -4,8 +4,8 @@ ghost use Rattle.sheets.specs.Reads.{sheet_meaning};
 ghost use Rattle.reader.specs.Format.{read_text};
 ghost use Rattle.reader.specs.Reads.{lent, rooms_in, no_name};
 ghost use Rattle.pieces.specs.Put.{Same, size};
-ghost use Rattle.report.specs.Reported.{ToldOf};
-ghost use Rattle.report.specs.Filling.{Sound, ReportFills, ReadsAndFills, kept};
+ghost use Rattle.report.specs.Reported.{Sound, ReportFills, ReadsAndFills, kept, ReadAsSpelled, ReportOf, ToldOf};
+ghost use Rattle.report.specs.Answered.{AnswerOf};
 
 use crate::fault::ReportFault;
 use crate::targets::put_targets;
@@ -91,7 +91,12 @@ fn report_into(
 ) -> Result<usize, ReportFault>
     requires { out.old.used ≡ 0 }
     ensures same { Same out.old out.new }
+    ensures reports { ReportOf (read_text (rooms_in (lent rules.old targets.old names.old)) text.now)
+        text.now (lent rules.old targets.old names.old) (size out.old) result
+        rules.new targets.new names.new out.new.places.now }
     ensures tells { ToldOf (read_text (rooms_in (lent rules.old targets.old names.old)) text.now)
+        text.now (lent rules.old targets.old names.old) (size out.old) result out.new.places.now }
+    ensures answers { AnswerOf (read_text (rooms_in (lent rules.old targets.old names.old)) text.now)
         text.now (lent rules.old targets.old names.old) (size out.old) result
         rules.new targets.new names.new out.new.places.now }
 {
@@ -110,7 +115,13 @@ pub fn report(
     names: &mut [Name],
     output: &mut [u8],
 ) -> Result<usize, ReportFault>
-    ensures { ToldOf (read_text (rooms_in (lent rules.old targets.old names.old)) text.now)
+    ensures spelled { ReadAsSpelled text.now (read_text (rooms_in (lent rules.old targets.old names.old)) text.now) }
+    ensures reports { ReportOf (read_text (rooms_in (lent rules.old targets.old names.old)) text.now)
+        text.now (lent rules.old targets.old names.old) (length output.old) result
+        rules.new targets.new names.new output.new }
+    ensures tells { ToldOf (read_text (rooms_in (lent rules.old targets.old names.old)) text.now)
+        text.now (lent rules.old targets.old names.old) (length output.old) result output.new }
+    ensures answers { AnswerOf (read_text (rooms_in (lent rules.old targets.old names.old)) text.now)
         text.now (lent rules.old targets.old names.old) (length output.old) result
         rules.new targets.new names.new output.new }
 {

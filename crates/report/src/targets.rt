@@ -4,7 +4,7 @@ ghost use Rattle.pieces.specs.Put.{Same, size};
 ghost use Rattle.trial.specs.Tells.{told};
 ghost use Rattle.outcomes.specs.Due.{DueAt};
 ghost use Rattle.outcomes.specs.Laws.{outcome_of};
-ghost use Rattle.report.specs.Filling.{ReportFills};
+ghost use Rattle.report.specs.Reported.{ReportFills};
 
 use crate::fault::ReportFault;
 use crate::judged::Judged;

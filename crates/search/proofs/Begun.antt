@@ -1,5 +1,5 @@
 -- A look that has begun, and one that has come to its end.
-use Rattle.std.proofs.Common.{◌≡◌, ℕ, ◌+◌, ◌<◌, ◌≤◌, Bool, true, false, List, length, replicate, Some, None, Option, sym, refl, ap, ◌∙◌, subst, arith, below_more, MatchOption}
+use Rattle.std.proofs.Common.{◌≡◌, ℕ, ◌+◌, ◌<◌, ◌≤◌, Bool, true, false, List, length, replicate, Some, None, Option, sym, subst, arith, MatchOption}
 use Rattle.rules.specs.declared.loaded.LoadedRule.{LoadedRule}
 use Rattle.rules.specs.Rules.{Relation, Rule, Keeps}
 use Rattle.rules.specs.Loaded.{meant}
@@ -10,7 +10,7 @@ use Rattle.search.specs.declared.spot.Spot.{Spot}
 use Rattle.search.specs.Placings.{Picks, choices}
 use Rattle.search.specs.Progress.{GroupReady, GroupTried, Links, Progress, ProgressAs, WalkReady, WalkTried}
 use Rattle.search.specs.Seens.{Fine}
-use Rattle.search.specs.Spots.{Looked, LookedAt}
+use Rattle.search.specs.Spots.{LookedAt}
 use Rattle.search.proofs.Breaks.{keeps_equality, keeps_functional}
 use Rattle.search.proofs.Groups.{all_grouped, choices-all, turn_none, turn_room}
 use Rattle.search.proofs.Orders.{keeps_order}

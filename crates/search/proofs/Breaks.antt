@@ -1,5 +1,5 @@
 -- From codes to rules: what is kept, and where it is broken.
-use Rattle.std.proofs.Common.{◌≡◌, ℕ, ◌+◌, ◌-◌, ◌<◌, ◌≤◌, true, false, cond, ◌⊎◌, List, [], ◌++◌, map, length, get_or, Some, None, Option, sym, refl, ap, ◌∙◌, subst, inl, inr, arith}
+use Rattle.std.proofs.Common.{◌≡◌, ℕ, ◌+◌, ◌-◌, ◌<◌, ◌≤◌, ◌⊎◌, List, [], ◌++◌, map, length, get_or, Some, sym, refl, ap, ◌∙◌, subst, inl, inr, arith}
 use mathlib.Core.List.{map-map}
 use Rattle.std.specs.List.{range_with_len, slice_get}
 use Rattle.std.proofs.lemmas.List.FromFn.{length-map-range_with_len, get_or-map-range_with_len}
@@ -7,11 +7,11 @@ use Rattle.std.proofs.lemmas.List.{length-map, length-append, get_or-map, get_or
 use Rattle.std.proofs.lemmas.Option.{slice_get-get_or}
 use Rattle.std.proofs.lemmas.Bool.{cases_lt, cond-true}
 use Rattle.rules.specs.declared.term.Term.{Term}
-use Rattle.rules.specs.declared.term.Term.TheVariants.{Constant, Variable}
+use Rattle.rules.specs.declared.term.Term.TheVariants.{Constant}
 use Rattle.rules.specs.declared.term.Kind.{Kind}
 use Rattle.rules.specs.declared.term.Kind.TheVariants.{Functional, Equality}
 use Rattle.rules.specs.declared.loaded.LoadedRule.{LoadedRule}
-use Rattle.rules.specs.Rules.{◌∈◌, Relation, Pattern, Valuation, Rule, at, Places, Agree, Compares, Keeps}
+use Rattle.rules.specs.Rules.{◌∈◌, Relation, Pattern, Valuation, Rule, at, Places, Agree, Keeps}
 use Rattle.rules.specs.Books.{PairOf, WellFormed}
 use Rattle.rules.specs.Doubled.{holds, copied, doubled}
 use Rattle.rules.specs.Loaded.{code_at, left_var, one_at, other_at, term_of, meant_row, meant, OfBook}
@@ -22,7 +22,7 @@ use Rattle.rules.proofs.Members.{map_on, holds-member}
 use Rattle.rules.proofs.Nths.{some_same, nth_member, member_nth, nth_within, nth_counted, counted_is}
 use Rattle.search.specs.declared.spot.Spot.{Spot}
 use Rattle.search.specs.Spots.{Sends, second_from, used, Break}
-use Rattle.search.specs.Placings.{value, left_code, place, Lands, AllPlaced, AllJoin, AllAgree, SameLeft, SplitAt, PartedAt}
+use Rattle.search.specs.Placings.{value, place, Lands, AllPlaced, AllJoin, AllAgree, SameLeft, SplitAt, PartedAt}
 use Rattle.search.proofs.Valuations.{value-constant, value-symbol}
 
 pub value-at : (f : Valuation) (c : ℕ) → value f c ≡ at f (term_of c)

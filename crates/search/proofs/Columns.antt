@@ -2,7 +2,7 @@
 use Rattle.std.proofs.Common.{◌≡◌, ℕ, ◌+◌, ◌<◌, ◌≤◌, List, [], length, get_or, Some, None, Option, sym, ◌∙◌, subst, arith, below_more}
 use Rattle.rules.specs.declared.loaded.LoadedRule.{LoadedRule}
 use Rattle.rules.specs.Loaded.{code_at}
-use Rattle.search.specs.Placings.{value, Lands, Placed, OneValue, Unlike, SoFar}
+use Rattle.search.specs.Placings.{value, Placed, OneValue, Unlike, SoFar}
 use Rattle.search.proofs.Valuations.{value-constant}
 
 module _ (rel : List (List ℕ)) (rule : LoadedRule) where

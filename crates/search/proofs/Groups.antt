@@ -1,5 +1,5 @@
 -- The steps of the search that groups placings by their left numbers.
-use Rattle.std.proofs.Common.{◌≡◌, ℕ, suc, ◌+◌, ◌-◌, ◌*◌, ◌^◌, ◌<◌, ◌≤◌, List, [], length, get_or, set, replicate, Some, None, Option, sym, refl, ap, ◌∙◌, subst, mul-le-mul_right, suc-mul, arith, below_more, MatchOption}
+use Rattle.std.proofs.Common.{◌≡◌, ℕ, suc, ◌+◌, ◌-◌, ◌*◌, ◌^◌, ◌<◌, ◌≤◌, List, length, get_or, set, replicate, Some, None, Option, sym, refl, ap, ◌∙◌, subst, mul-le-mul_right, suc-mul, arith, below_more, MatchOption}
 use native.Mathlib.Nat.{pow-zero, pow-succ', pow-le-pow_left, pow-le-pow_right}
 use Rattle.rules.specs.declared.loaded.LoadedRule.{LoadedRule}
 use Rattle.rules.specs.Loaded.{one_at}
@@ -7,10 +7,10 @@ use Rattle.search.specs.declared.plan.Plan.{Plan}
 use Rattle.search.specs.declared.choices.Choices.{Choices}
 use Rattle.search.specs.declared.seen.Seen.{Seen}
 use Rattle.search.specs.declared.seen.Parting.{Parting}
-use Rattle.search.specs.Placings.{value, filled, left_code, place, Lands, Placed, Landed, Origins, Groupable, SameLeft, SameRight, AllAgree, Parts, PartedAt, From, With, Bounded, choices, Picks, chosen}
+use Rattle.search.specs.Placings.{filled, left_code, place, Lands, Landed, Origins, Groupable, SameLeft, SameRight, AllAgree, With, Bounded, choices, Picks, chosen}
 use Rattle.search.specs.Seens.{entry, Fine, Grows, Old, Went, Covered, Covers, Tried, Turn, PartingAt}
 use Rattle.search.proofs.Plans.{filled-early, filled-stands}
-use Rattle.search.proofs.Walks.{place_other, tried_clash, tried_next, tried_all, none_placed}
+use Rattle.search.proofs.Walks.{place_other, tried_clash, tried_next, tried_all}
 
 module _ (rel : List (List ℕ)) (rule : LoadedRule) (plan : Plan) where
   pub went_none : (seen : Seen) → Fine rel rule plan seen → Went rel rule plan seen seen 0

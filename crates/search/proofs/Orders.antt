@@ -1,9 +1,9 @@
 -- A rule with its rows in another order.
-use Rattle.std.proofs.Common.{◌≡◌, ℕ, zero, suc, ◌<◌, ◌≤◌, ◌⊎◌, List, [], ◌∷◌, length, get_or, sym, refl, ap, ◌∙◌, subst, inl, inr, arith}
+use Rattle.std.proofs.Common.{◌≡◌, ℕ, zero, suc, ◌<◌, ◌≤◌, List, [], ◌∷◌, sym, refl, ap, ◌∙◌, subst, inl, inr, arith}
 use Rattle.rules.specs.declared.loaded.CodeRow.{CodeRow}
 use Rattle.rules.specs.declared.loaded.LoadedRule.{LoadedRule}
 use Rattle.rules.specs.Loaded.{code_at}
-use Rattle.search.specs.Placings.{value, place, Lands, Placed, Early, KnownCode, Sound, Groupable, AllAgree, PartedAt, SameRow, arranged, Rearranges, PutsBack}
+use Rattle.search.specs.Placings.{value, place, Lands, Placed, Early, KnownCode, Groupable, AllAgree, PartedAt, SameRow, arranged, Rearranges, PutsBack}
 
 module _ (rel : List (List ℕ)) (rule : LoadedRule) (rows : List CodeRow) where
   there : (f : ℕ → ℕ) (i j k : ℕ) → SameRow rule i (arranged rule rows) j → Lands rel rule f i k → Lands rel (arranged rule rows) f j k

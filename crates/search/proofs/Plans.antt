@@ -1,9 +1,9 @@
 -- Where symbols stand, and what a placing's valuation gives.
-use Rattle.std.proofs.Common.{◌≡◌, ℕ, ◌+◌, ◌-◌, ◌<◌, ◌≤◌, ◌≢◌, ◌⊎◌, List, [], length, get_or, set, replicate, sym, refl, ap, ◌∙◌, subst, inl, inr, arith, below_more}
+use Rattle.std.proofs.Common.{◌≡◌, ℕ, ◌+◌, ◌-◌, ◌<◌, ◌≤◌, ◌⊎◌, List, [], length, get_or, set, replicate, sym, refl, ap, ◌∙◌, subst, inl, inr, arith, below_more}
 use Rattle.std.proofs.lemmas.List.{get_or-set_same, get_or-set_other, get_or-replicate}
 use Rattle.std.proofs.lemmas.Bool.{cases_eq, cases_lt}
 use Rattle.search.proofs.Valuations.{value-constant, value-symbol}
-use Rattle.search.specs.Placings.{value, slot, no_slot, filled, place, Cells, Lands, Early, Origin, OriginsOf, OriginsFrom, Origins, RowsFit, FirstAt, Own, Leaves, Planned, no_tests, tests_at, column_at}
+use Rattle.search.specs.Placings.{value, slot, no_slot, filled, place, Cells, Lands, Early, Origin, OriginsOf, OriginsFrom, Origins, RowsFit, Own, Leaves, Planned, no_tests, tests_at, column_at}
 use Rattle.rules.specs.declared.loaded.LoadedRule.{LoadedRule}
 use Rattle.rules.specs.Loaded.{code_at}
 use Rattle.search.specs.declared.plan.Slot.{Slot}

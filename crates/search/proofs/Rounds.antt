@@ -1,9 +1,8 @@
 -- Going round a book.
-use Rattle.std.proofs.Common.{◌≡◌, ℕ, ◌+◌, ◌-◌, ◌%◌, ◌<◌, ◌≤◌, ◌⊎◌, List, [], length, get_or, Some, None, Option, sym, refl, ap, ◌∙◌, subst, inl, inr, mod-lt, mod-eq_of_lt, arith, below_more, MatchOption}
+use Rattle.std.proofs.Common.{◌≡◌, ℕ, ◌+◌, ◌-◌, ◌%◌, ◌<◌, ◌≤◌, List, [], length, get_or, Some, None, Option, sym, ap, ◌∙◌, subst, mod-lt, mod-eq_of_lt, arith, below_more, MatchOption}
 use native.Mathlib.Nat.{add-mod-mod, add-mod_right, mod-add-mod}
 use Rattle.std.specs.List.{slice_get}
 use Rattle.std.proofs.lemmas.Option.{slice_get-get_or, slice_get_past}
-use Rattle.std.proofs.lemmas.Bool.{cases_lt}
 use Rattle.rules.specs.declared.term.Kind.TheVariants.{Equality}
 use Rattle.rules.specs.declared.loaded.LoadedRule.{LoadedRule}
 use Rattle.rules.specs.Rules.{◌∈◌, Relation, Rule, Keeps}
@@ -12,7 +11,7 @@ use Rattle.rules.specs.Doubled.{doubled}
 use Rattle.rules.specs.Loaded.{DoubledOf, meant}
 use Rattle.rules.proofs.Nths.{member_nth, nth_member, nth_within, some_none, some_same}
 use Rattle.search.specs.declared.spot.Spot.{Spot}
-use Rattle.search.specs.Spots.{Break, Found, Looked, LookedAt, Quiet, turned}
+use Rattle.search.specs.Spots.{Found, Looked, LookedAt, Quiet, turned}
 use Rattle.search.proofs.Breaks.{keeps_doubled, undouble}
 
 -- a round from any rule on comes to each rule

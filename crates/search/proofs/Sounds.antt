@@ -1,6 +1,5 @@
 -- A loaded rule may be searched for.
-use Rattle.std.proofs.Common.{◌≡◌, ℕ, ◌+◌, ◌-◌, ◌<◌, ◌≤◌, ◌⊎◌, List, map, length, sym, refl, ap, ◌∙◌, subst, inl, inr, arith}
-use Rattle.std.specs.List.{range_with_len}
+use Rattle.std.proofs.Common.{◌≡◌, ℕ, ◌+◌, ◌-◌, ◌<◌, ◌≤◌, ◌⊎◌, length, sym, refl, ◌∙◌, subst, inl, inr, arith}
 use Rattle.std.proofs.lemmas.List.FromFn.{length-map-range_with_len}
 use Rattle.std.proofs.lemmas.Bool.{cases_lt}
 use Rattle.rules.specs.declared.term.Term.{Term}
@@ -12,7 +11,7 @@ use Rattle.rules.specs.Loaded.{code_at, left_var, one_at, other_at, term_of, mea
 use Rattle.rules.proofs.Codes.{term_constant, term_variable}
 use Rattle.rules.proofs.Copies.{counted-member, member_counted, sized}
 use Rattle.rules.proofs.Forms.{form_of}
-use Rattle.search.specs.Placings.{left_code, Early, KnownCode, Sound, Groupable}
+use Rattle.search.specs.Placings.{KnownCode, Sound, Groupable}
 
 symbolic_code : (c : ℕ) → Symbolic (term_of c) → c < 16777280
 symbolic_code c s = go (cases_lt c 16777216)

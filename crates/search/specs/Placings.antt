@@ -1,6 +1,6 @@
 -- How the search gets there: what a rule's codes say of a relation, and what a placing makes of them. A placing is the
 -- list of the rows' places: row i of the pattern goes to row `place p i` of the relation.
-use Rattle.std.specs.Prelude.{◌≡◌, ℕ, ◌+◌, ◌-◌, ◌^◌, ◌<◌, ◌≤◌, Bool, false, cond, ◌⊎◌, List, [], length, Some, None, Option, nat_lt, slice_index, slice_index_or}
+use Rattle.std.specs.Prelude.{◌≡◌, ℕ, ◌+◌, ◌-◌, ◌^◌, ◌<◌, ◌≤◌, false, cond, ◌⊎◌, List, [], length, Some, None, Option, nat_lt, slice_index, slice_index_or}
 use Rattle.rules.specs.declared.loaded.CodeRow.{CodeRow}
 use Rattle.rules.specs.declared.loaded.LoadedRule.{LoadedRule}
 use Rattle.rules.specs.Loaded.{code_at, left_var, one_at, other_at}
@@ -8,7 +8,6 @@ use Rattle.search.specs.declared.plan.Slot.{Slot}
 use Rattle.search.specs.declared.plan.Tests.{Tests}
 use Rattle.search.specs.declared.plan.Plan.{Plan}
 use Rattle.search.specs.declared.choices.Choices.{Choices}
-use Rattle.search.specs.declared.spot.Spot.{Spot}
 
 -- the number of a code: a constant is its own, a symbol has the valuation's
 unfoldable pub value : (ℕ → ℕ) → ℕ → ℕ

@@ -1,7 +1,6 @@
 -- A look at one rule, by the choices for the first row of its pattern.
 use Rattle.std.specs.Prelude.{◌≡◌, ℕ, ◌<◌, ◌≤◌, Bool, true, false, List, length, replicate, Option}
 use Rattle.rules.specs.declared.term.Kind.TheVariants.{Functional, Equality}
-use Rattle.rules.specs.declared.loaded.LoadedRule.{LoadedRule}
 use Rattle.rules.specs.Rules.{Relation, Rule}
 use Rattle.rules.specs.Loaded.{OfBook}
 use Rattle.search.specs.declared.choices.Choices.{Choices}

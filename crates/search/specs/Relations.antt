@@ -1,5 +1,5 @@
 -- What a relation answers.
-use Rattle.std.specs.Prelude.{◌≡◌, ℕ, List, map, length, Option, slice_index}
+use Rattle.std.specs.Prelude.{ℕ, List, map, length, Option, slice_index}
 use Rattle.std.proofs.Common.{sym, ap, ◌∙◌}
 use mathlib.Core.List.Memᴰ
 use Rattle.std.specs.List.{range_with_len, slice_get}

@@ -1,9 +1,9 @@
 -- A part of the front of a text is a part of the text.
-use Rattle.std.proofs.Common.{◌≡◌, ℕ, suc, ◌+◌, ◌-◌, ◌<◌, ◌≤◌, List, [], ◌∷◌, length, take, drop, Some, None, Option, sym, refl, ap, ◌∙◌, subst, le_trans, arith, length-take, MatchOption}
+use Rattle.std.proofs.Common.{◌≡◌, ℕ, ◌+◌, ◌-◌, ◌<◌, ◌≤◌, List, [], ◌∷◌, length, take, drop, Some, None, Option, sym, ap, ◌∙◌, le_trans, arith, length-take, MatchOption}
 use native.Mathlib.Nat.{min-le_left}
 use Rattle.std.proofs.lemmas.List.{drop-take, take-take, take_all, drop_all, length-take-le}
 use Rattle.text.specs.declared.words.Name.{Name}
-use Rattle.text.specs.Words.{Word, word_in, words_at, line_words, part}
+use Rattle.text.specs.Words.{word_in, words_at, line_words, part}
 
 pub part-within : (t : List ℕ) (e : ℕ) (w : Name) → w.place + w.length ≤ e → part (take e t) w ≡ part t w
 part-within t e w h =

@@ -1,11 +1,11 @@
 -- The words and the lines are those that are spelled.
-use Rattle.std.proofs.Common.{◌≡◌, ℕ, zero, suc, ◌+◌, ◌-◌, ◌<◌, ◌≤◌, Bool, true, false, cond, not, eqb, ◌⊎◌, List, [], ◌∷◌, ◌++◌, map, length, replicate, sym, refl, ap, ◌∙◌, subst, inl, inr, ⊎_elim, append_assoc, append-nil, arith, length-append}
+use Rattle.std.proofs.Common.{◌≡◌, ℕ, zero, suc, ◌+◌, ◌-◌, ◌<◌, not, eqb, List, [], ◌∷◌, ◌++◌, length, replicate, sym, refl, ap, ◌∙◌, subst, inl, inr, ⊎_elim, append_assoc, append-nil, arith, length-append}
 use Rattle.std.specs.List.{AllByRecursion as All}
 use Rattle.std.proofs.ByRecursion.{All-push}
 use Rattle.std.proofs.lemmas.Bool.{cond-true, cond-false, cases_Bool, ne_eqb, eq-eqb, eqb-true, eqb-false}
 use Rattle.text.specs.Lines.{Line, in_line, begun, lines_at}
 use Rattle.text.specs.Words.{Word, in_word, closed, words_from, words_at}
-use Rattle.text.specs.Spelling.{IsWord, Apart, Spaced, Lined, WordsAreSpelled, LinesAreSpelled}
+use Rattle.text.specs.Spelling.{Apart, Spaced, Lined, WordsAreSpelled, LinesAreSpelled}
 
 on : (p b : ℕ) (cur bs : List ℕ) → (b ≡ 32 → ⊥) → words_from p cur (b ∷ bs) ≡ words_from (suc p) (cur ++ b ∷ []) bs
 on p b cur bs h = cond-true (in_word b) _ _ (ap not (ne_eqb b 32 h))

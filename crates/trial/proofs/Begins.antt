@@ -1,14 +1,13 @@
 -- A trial as it starts.
-use Rattle.std.proofs.Common.{◌≡◌, ℕ, ◌+◌, ◌<◌, ◌≤◌, Bool, true, false, cond, ◌≢◌, List, length, get_or, Some, sym, refl, ap, ◌∙◌, subst, arith}
+use Rattle.std.proofs.Common.{◌≡◌, ℕ, ◌+◌, ◌<◌, ◌≤◌, Bool, true, false, cond, ◌≢◌, List, length, get_or, Some, sym, ap, ◌∙◌, subst, arith}
 use Rattle.rules.specs.declared.term.Term.{Term}
 use Rattle.rules.specs.declared.loaded.LoadedRule.{LoadedRule}
 use Rattle.rules.specs.Rules.{Pattern, Rule}
-use Rattle.rules.specs.Books.{BookMeaning, base, WellFormed, WellFormedBook}
-use Rattle.rules.specs.Doubled.{doubled_rows, doubled_pairs}
+use Rattle.rules.specs.Books.{BookMeaning, base, WellFormedBook}
+use Rattle.rules.specs.Doubled.{doubled_rows}
 use Rattle.rules.specs.Loaded.{DoubledOf, meant}
 use Rattle.rules.proofs.Nths.{nth_member}
-use Rattle.law.specs.Groups.{Alone, State, group_count}
-use Rattle.law.specs.Stored.{stored}
+use Rattle.law.specs.Groups.{Alone, group_count}
 use Rattle.law.specs.Calls.{View, Blank, Going, fresh, Done, Refused, Starts, begun, not_blank, no_rule, targets_width}
 use Rattle.law.proofs.Starting.{Fit, starts_fit}
 use Rattle.law.proofs.Shown.{alone_counts, few_symbols}

@@ -1,5 +1,5 @@
 -- What an advance and a finish leave, as the law sees it.
-use Rattle.std.proofs.Common.{◌≡◌, ℕ, ◌+◌, ◌<◌, ◌≤◌, Bool, true, false, cond, ◌≢◌, ◌⊎◌, List, is_some, Some, None, Option, sym, refl, ap, ◌∙◌, subst, inl, inr, arith}
+use Rattle.std.proofs.Common.{◌≡◌, ℕ, ◌+◌, ◌≤◌, Bool, true, false, cond, ◌≢◌, List, is_some, Some, None, Option, sym, ap, ◌∙◌, subst, inl, inr, arith}
 use Rattle.rules.specs.declared.loaded.LoadedRule.{LoadedRule}
 use Rattle.rules.specs.Rules.{Pattern, Rule}
 use Rattle.rules.specs.Books.{BookMeaning}
@@ -10,14 +10,14 @@ use Rattle.law.specs.declared.outcome.Verdict.{Verdict}
 use Rattle.law.specs.declared.outcome.Verdict.TheVariants.{Void, Follows, Fails}
 use Rattle.law.specs.Groups.{group_count}
 use Rattle.law.specs.Runs.{Merges, Ended, clash_met, pairs_met, pairs_apart}
-use Rattle.law.specs.Calls.{Started, View, Blank, Going, moved, Answer, Made, Refused, Advances, still_blank, advance_width, stopped, spent, rests, clashes, Finished, Finishes, never_begun, finish_width, clashed_before, ended}
+use Rattle.law.specs.Calls.{View, Blank, Going, moved, Made, Refused, Advances, still_blank, advance_width, stopped, spent, rests, clashes, Finishes, never_begun, finish_width, clashed_before, ended}
 use Rattle.trial.specs.declared.fault.TrialFault.{TrialFault}
 use Rattle.trial.specs.declared.fault.TrialFault.TheVariants.{NotBlank, NoRule, WidthsDiffer, StillBlank}
 use Rattle.trial.specs.Faults.{refused}
 use Rattle.trial.specs.Stepping.{AdvanceDue}
 use Rattle.trial.specs.declared.held.Held.{Held}
 use Rattle.trial.specs.Views.{rows_of, shows_of, groups_of, going, view}
-use Rattle.trial.specs.Merging.{after, MergedOn, Stopped}
+use Rattle.trial.specs.Merging.{MergedOn, Stopped}
 use Rattle.trial.specs.Judging.{AllAlike, Judged}
 use Rattle.trial.proofs.Begins.{view-blank, view-going}
 

@@ -1,9 +1,7 @@
 -- Pairs that show alike.
-use Rattle.std.proofs.Common.{◌≡◌, ℕ, ◌<◌, List, map, sym, subst}
-use Rattle.std.specs.List.{range_with_len}
+use Rattle.std.proofs.Common.{ℕ, ◌<◌, subst}
 use Rattle.rules.specs.declared.term.Term.{Term}
-use Rattle.rules.specs.Rules.{◌∈◌}
-use Rattle.rules.specs.Loaded.{meant, one_at, other_at, term_of}
+use Rattle.rules.specs.Loaded.{one_at, other_at, term_of}
 use Rattle.rules.proofs.Copies.{counted-member, member_counted}
 use Rattle.law.specs.Groups.{OneGroup}
 use Rattle.trial.specs.declared.held.Held.{Held}

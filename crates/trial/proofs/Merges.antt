@@ -1,17 +1,16 @@
 -- The record as merging goes on.
-use Rattle.std.proofs.Common.{◌≡◌, ℕ, suc, ◌+◌, ◌-◌, ◌<◌, ◌≤◌, min, max, Bool, true, false, ◌⊎◌, List, map, length, sym, refl, ap, ◌∙◌, subst, inl, inr, add-zero, arith}
+use Rattle.std.proofs.Common.{◌≡◌, ℕ, suc, ◌+◌, ◌<◌, ◌≤◌, min, max, Bool, true, false, ◌⊎◌, List, length, sym, refl, ap, ◌∙◌, subst, inl, inr, add-zero, arith}
 use mathlib.Core.List.Memᴰ
 use Rattle.std.specs.List.{range_with_len}
 use Rattle.std.proofs.lemmas.Bool.{cases_lt}
 use Rattle.rules.specs.declared.term.Term.{Term}
-use Rattle.rules.specs.declared.term.Term.TheVariants.{Constant, Variable}
 use Rattle.rules.specs.declared.loaded.LoadedRule.{LoadedRule}
-use Rattle.rules.specs.Rules.{◌∈◌, Pattern, Rule}
-use Rattle.rules.specs.Books.{BookMeaning, base, Stands, WellFormedBook}
+use Rattle.rules.specs.Rules.{◌∈◌, Pattern}
+use Rattle.rules.specs.Books.{BookMeaning, base, WellFormedBook}
 use Rattle.rules.specs.Loaded.{code_at, meant, meant_row, term_of}
 use Rattle.rules.proofs.Codes.{term_constant, term_variable}
 use Rattle.law.specs.Groups.{Entry, current, group_count}
-use Rattle.law.specs.Runs.{AtRest, Clashing, Merges, none, more, OpenSpot}
+use Rattle.law.specs.Runs.{AtRest, Merges, none, more, OpenSpot}
 use Rattle.law.specs.Stored.{stored, replaced, Held as Fitting}
 use Rattle.law.proofs.Storing.{storing}
 use Rattle.search.specs.declared.spot.Spot.{Spot}

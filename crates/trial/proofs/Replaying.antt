@@ -2,9 +2,9 @@
 use Rattle.std.proofs.Common.{◌≡◌, ℕ, ◌+◌, ◌<◌, Bool, List, [], ◌∷◌, ◌++◌, map, length, get_or, take, sym, refl, ap, ◌∙◌, subst, arith, length-append}
 use Rattle.std.proofs.lemmas.List.{take_more, map-append}
 use Rattle.rules.specs.Books.{BookMeaning, WellFormedBook}
-use Rattle.law.specs.Calls.{View, Blank, Call, Answer, Finished, Finishes}
+use Rattle.law.specs.Calls.{View, Blank, Call, Answer}
 use Rattle.law.specs.Promise.{Turn, Unfinished, Steps, TargetsFit, LeadsTo}
-use Rattle.law.specs.Standing.{turns_of, ReplayPromised}
+use Rattle.law.specs.Standing.{turns_of}
 use Rattle.law.proofs.Histories.{history_more, history_none}
 use Rattle.law.proofs.Kept.{kept}
 use Rattle.law.proofs.Stands.{finish_promised, turns_more}
@@ -14,7 +14,6 @@ use Rattle.trial.specs.declared.request.Request.TheVariants.{Start, Advance}
 use Rattle.trial.specs.declared.replay.Outcome.{Outcome}
 use Rattle.trial.specs.declared.replay.Outcome.TheVariants.{Going, Finished as Ended}
 use Rattle.trial.specs.Tells.{told}
-use Rattle.trial.specs.Seen.{seen}
 use Rattle.trial.specs.Replays.{answer_of, asked, Concluded, LedTo, ReplayedSo}
 
 pub asked-fits : {T : Type 0} (meaning : T → BookMeaning) → ((t : T) → WellFormedBook (meaning t)) → (q : Request T) → TargetsFit (asked meaning q)

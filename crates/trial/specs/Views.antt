@@ -1,12 +1,10 @@
 -- What is seen of a trial's record.
-use Rattle.std.specs.Prelude.{◌≡◌, ℕ, cond, List, map, length}
+use Rattle.std.specs.Prelude.{ℕ, cond, map, length}
 use Rattle.std.proofs.Common.{sym, ap, ◌∙◌}
 use mathlib.Core.List.Memᴰ
 use Rattle.std.proofs.lemmas.List.{length-map}
 use Rattle.std.specs.List.{range_with_len}
-use Rattle.std.proofs.lemmas.List.FromFn.{length-range_with_len, length-map-range_with_len}
-use Rattle.rules.specs.declared.term.Term.{Term}
-use Rattle.rules.specs.declared.loaded.LoadedRule.{LoadedRule}
+use Rattle.std.proofs.lemmas.List.FromFn.{length-map-range_with_len}
 use Rattle.rules.specs.Rules.{Relation, OfWidth, Pattern, at}
 use Rattle.rules.specs.Loaded.{code_at, meant, meant_row, term_of}
 use Rattle.law.specs.Groups.{State, current, group_count}

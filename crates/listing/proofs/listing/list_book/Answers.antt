@@ -1,4 +1,4 @@
-use Rattle.std.proofs.Common.{[], get_or, string_bytes, arith}
+use Rattle.std.proofs.Common.{get_or, string_bytes, arith}
 use Rattle.std.proofs.lemmas.Option.{slice_get-get_or}
 use Rattle.listing.proofs.Steps.{rule-step, rules_done, some_rule}
 use Rattle.listing.proofs.listing.list_book.Goals as goal

@@ -1,4 +1,4 @@
-use Rattle.std.proofs.Common.{◌≡◌, ℕ, sym, ◌∙◌, arith}
+use Rattle.std.proofs.Common.{sym, ◌∙◌}
 use Rattle.listing.proofs.Steps.{kind_there, same_some, none_some}
 use Rattle.listing.proofs.listing.push_at.Goals as goal
 

@@ -1,4 +1,4 @@
-use Rattle.std.proofs.Common.{◌≡◌, ◌≤◌, ◌++◌, length, take, Some, string_bytes}
+use Rattle.std.proofs.Common.{◌≡◌, ◌++◌, take, Some, string_bytes}
 use Rattle.std.specs.List.{flat_map, slice_get}
 use Rattle.rules.specs.Rules.{Rule}
 use Rattle.listing.specs.Listing.{row_text}

@@ -1,4 +1,4 @@
-use Rattle.std.proofs.Common.{◌≡◌, ℕ, List, ◌++◌, string_bytes, codes, decimal, ap, ◌∙◌}
+use Rattle.std.proofs.Common.{ℕ, List, ◌++◌, string_bytes, codes, decimal, ap, ◌∙◌}
 use Rattle.rules.specs.declared.term.Kind.{Kind}
 use Rattle.listing.specs.Listing.{kind_text, lists_text, rule_text}
 use Rattle.listing.proofs.Steps.{four_parts}

@@ -1,5 +1,4 @@
-use Rattle.std.proofs.Common.{◌≡◌, refl, arith}
-use Rattle.pieces.proofs.Steps.{same_refl}
+use Rattle.std.proofs.Common.{refl, arith}
 use Rattle.pieces.proofs.put.put_word.Goals as goal
 
 pub returns : goal.returns

@@ -1,4 +1,4 @@
-use Rattle.std.proofs.Common.{◌≡◌, true, not, ◌||◌, ltb, length, sym, refl, ap, ◌∙◌}
+use Rattle.std.proofs.Common.{◌≡◌, true, not, ◌||◌, ltb, sym, ap, ◌∙◌}
 use lib.ListN.{length-map}
 use Rattle.text.specs.Filled.{items}
 use Rattle.text.specs.Words.{word_in, is_variable, part}

@@ -1,4 +1,4 @@
-use Rattle.std.proofs.Common.{◌≡◌, ◌+◌, ◌-◌, ◌<◌, ◌≤◌, sym, refl, ap, ◌∙◌, subst, arith}
+use Rattle.std.proofs.Common.{◌≡◌, ◌-◌, sym, ap, ◌∙◌, arith}
 use Rattle.text.specs.Filled.{items}
 use Rattle.text.specs.Words.{part, number_in}
 use Rattle.reader.proofs.Numbered.{bytes_words_in, length-items}

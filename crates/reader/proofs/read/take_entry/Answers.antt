@@ -1,4 +1,4 @@
-use Rattle.std.proofs.Common.{◌≡◌, [], sym, ap, ◌∙◌, arith}
+use Rattle.std.proofs.Common.{[], ap, ◌∙◌, arith}
 use Rattle.text.specs.Words.{line_words}
 use Rattle.reader.specs.Format.{entry, words_line}
 use Rattle.reader.specs.Held.{desk_of, held}

@@ -1,4 +1,4 @@
-use Rattle.std.proofs.Common.{◌≡◌, [], ◌∷◌, sym, refl, ap, ◌∙◌, arith}
+use Rattle.std.proofs.Common.{[], ◌∷◌, sym, refl, ◌∙◌, arith}
 use Rattle.reader.specs.declared.desk.Counting.TheVariants as counting
 use Rattle.reader.specs.Format.{count}
 use Rattle.reader.specs.Held.{desk_of, held, rooms_of}

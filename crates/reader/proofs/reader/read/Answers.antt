@@ -1,4 +1,4 @@
-use Rattle.std.proofs.Common.{◌≡◌, leb, length, refl, ◌∙◌, arith}
+use Rattle.std.proofs.Common.{leb, length, refl, arith}
 use Rattle.std.proofs.lemmas.Bool.{cond-false, lt-leb}
 use Rattle.reader.specs.Reads.{no_name}
 use Rattle.reader.proofs.Blanks.{all_blank}

@@ -3,7 +3,7 @@ use lib.Seq.{take-append_seam}
 use Rattle.reader.specs.Format.{read_text}
 use Rattle.reader.specs.Reads.{rooms_in}
 use Rattle.spelling.specs.Room.{most}
-use Rattle.report.specs.Reported.{Printed}
+use Rattle.report.specs.Answered.{Printed}
 use Rattle.report.proofs.answer.answer.Goals as goal
 
 pub returns : goal.returns

@@ -5,20 +5,20 @@ use Rattle.writing.specs.Enough.{enough}
 use Rattle.writing.specs.Reports.{refusal_text}
 use Rattle.report.specs.Faults.{report_refusal}
 use Rattle.spelling.specs.Room.{most}
-use Rattle.report.specs.Reported.{ToldOf, Printed}
+use Rattle.report.specs.Answered.{AnswerOf, Printed}
 use Rattle.report.proofs.Printing.{printed_ok, printed_err, enough-is}
 use Rattle.report.proofs.answer.put_answer.Goals as goal
 
 pub returns-in-Ok : goal.returns-in-Ok
 returns-in-Ok c =
     let text = c.args.text.now in
-    let told = subst (λ (l : Lent). ToldOf (read_text (rooms_in l) text) text l (length c.args.output.now) (Ok c.in-Ok.size) c.report.new.rules c.report.new.targets c.report.new.names c.report.new.output) c.requires.lent c.in-Ok.ensures in
+    let told = subst (λ (l : Lent). AnswerOf (read_text (rooms_in l) text) text l (length c.args.output.now) (Ok c.in-Ok.size) c.report.new.rules c.report.new.targets c.report.new.names c.report.new.output) c.requires.lent c.in-Ok.ensures.answers in
     printed_ok (read_text (rooms_in most) text) text most (length c.args.output.now) c.in-Ok.size c.report.new.rules c.report.new.targets c.report.new.names c.report.new.output told
 
 pub returns-in-Err : goal.returns-in-Err
 returns-in-Err c =
     let text = c.args.text.now in
-    let told = subst (λ (l : Lent). ToldOf (read_text (rooms_in l) text) text l (length c.args.output.now) (Err c.in-Err.fault) c.report.new.rules c.report.new.targets c.report.new.names c.report.new.output) c.requires.lent c.in-Err.ensures in
+    let told = subst (λ (l : Lent). AnswerOf (read_text (rooms_in l) text) text l (length c.args.output.now) (Err c.in-Err.fault) c.report.new.rules c.report.new.targets c.report.new.names c.report.new.output) c.requires.lent c.in-Err.ensures.answers in
     let long : enough ≤ length c.args.output.now = omega (arith, enough-is, c.requires.output) in
     let p = printed_err (read_text (rooms_in most) text) text most (length c.args.output.now) c.in-Err.fault c.report.new.rules c.report.new.targets c.report.new.names c.report.new.output refl long told in
     subst (Printed (read_text (rooms_in most) text) text most) (sym (c.put_refusal.ensures ∙ ap refusal_text c.refusal.ensures)) p

@@ -1,7 +1,7 @@
 use Rattle.std.proofs.Common.{◌≡◌, ℕ, List, sym, refl, ap, ◌∙◌, subst, arith}
 use Rattle.sheets.specs.Reads.{sheet_meaning}
 use Rattle.pieces.proofs.Steps.{same_refl}
-use Rattle.report.specs.Filling.{ReportFills}
+use Rattle.report.specs.Reported.{ReportFills}
 use Rattle.report.proofs.report.put_sheets.Goals as goal
 
 pub returns-in_err-check : goal.returns-in_err-check

@@ -4,7 +4,7 @@ use Rattle.reader.specs.Format.{Memo}
 use Rattle.reader.specs.Reads.{lent}
 use Rattle.pieces.proofs.Steps.{same_refl}
 use Rattle.report.specs.declared.fault.ReportFault.TheVariants.{Reading}
-use Rattle.report.specs.Filling.{ReadsAndFills}
+use Rattle.report.specs.Reported.{ReadsAndFills}
 use Rattle.report.proofs.Whole.{err_is}
 use Rattle.report.proofs.report.read_and_put.Goals as goal
 

@@ -3,7 +3,7 @@ use Rattle.reader.specs.Format.{read_text}
 use Rattle.reader.specs.Reads.{lent, rooms_in}
 use Rattle.pieces.proofs.Steps.{same_trans}
 use Rattle.report.proofs.Whole.{closes_whole}
-use Rattle.report.proofs.Sounds.{tells as tells-of}
+use Rattle.report.proofs.Sounds.{tells as tells_of, answers as answers_of}
 use Rattle.report.proofs.report.report_into.Goals as goal
 
 pub returns : goal.returns
@@ -21,6 +21,9 @@ returns c =
     _ _ _ _ _ c.requires told.same x y z told.reads c.close.ensures.answer c.clear_after.ensures.rules c.clear_after.ensures.targets c.clear_after.ensures.names c.close.ensures.places in
     record {
       same = same_trans told.same c.close.ensures.same;
-      tells = tells-of c.layout_stands.ensures.written c.layout_stands.ensures.passing l a.text.now (read_text (rooms_in l) a.text.now) refl
+      reports = whole;
+      tells = tells_of c.layout_stands.ensures.written c.layout_stands.ensures.passing l a.text.now (read_text (rooms_in l) a.text.now) refl
+          _ _ _ _ _ _ whole;
+      answers = answers_of c.layout_stands.ensures.written c.layout_stands.ensures.passing l a.text.now (read_text (rooms_in l) a.text.now) refl
           _ _ _ _ _ _ whole;
     }

@@ -11,7 +11,7 @@ use Rattle.writing.specs.Filling.{Past}
 use Rattle.trial.specs.Tells.{told}
 use Rattle.outcomes.specs.Laws.{outcome_of}
 use Rattle.report.specs.Reported.{EachDue}
-use Rattle.report.specs.Filling.{ReportFills}
+use Rattle.report.specs.Reported.{ReportFills}
 use Rattle.report.proofs.Tried.{due-ends}
 use Rattle.writing.proofs.Parted.{whole-push, past_at, put-within}
 use Rattle.report.proofs.Pushed.{length-texts, texts_append, due-append, all_due, parts-split}
@@ -31,7 +31,8 @@ returns-in-Err g c =
           let is : c.count-count.result ≡ length all.0 = c.count-count.ensures ∙ sym all.1 in
           record {
             outcomes = all.0;
-            due = record { long = all.1; each = all.2 };
+            long = all.1;
+            each = all.2;
             fills = record {
               same = put.same;
               cases = (
@@ -108,7 +109,8 @@ returns-in-Err-put_target g c =
           let more = length-append line (whole before) in
           record {
             outcomes = os ++ o ∷ rest.0;
-            due = record { long = all; each = due-append b ts 0 i os (o ∷ rest.0) (omega arith) so_far.2 (c.in_ok-judged.ensures, rest.2) };
+            long = all;
+            each = due-append b ts 0 i os (o ∷ rest.0) (omega arith) so_far.2 (c.in_ok-judged.ensures, rest.2);
             fills = record {
               same = same_trans first.same (same_trans same put.same);
               cases = (
@@ -139,7 +141,8 @@ returns g c =
           let count : c.count-count.result ≡ length os = omega arith in
           record {
             outcomes = os;
-            due = record { long = sym count ∙ c.count-count.ensures; each = so_far.2 };
+            long = sym count ∙ c.count-count.ensures;
+            each = so_far.2;
             fills = record {
               same = same_trans first.same same;
               cases = as_put (ap (λ n. first_line n ++ whole (target_texts text names 1 os)) count) (then-put first.same first.cases so_far.3);

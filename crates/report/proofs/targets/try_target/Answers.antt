@@ -16,7 +16,7 @@ invariant_of-result g c =
     let start = begins b ts c.args.i c.blank-trial.ensures c.in_ok-start.ensures.answered in
     let f = told c.finish.result in
     let due = tried_due b (g.B.Book.well c.args.book.now) ts (g.T.Book.well c.args.targets.now) start.width c.args.i start f c.finish.ensures.answered in
-    (due-narrow b (g.B.Book.well c.args.book.now) ts (g.T.Book.well c.args.targets.now) start.width c.args.i (outcome_of f) due, tt)
+    record { narrow = due-narrow b (g.B.Book.well c.args.book.now) ts (g.T.Book.well c.args.targets.now) start.width c.args.i (outcome_of f) due }
 
 pub returns : goal.returns
 returns g c =

@@ -1,4 +1,4 @@
-use Rattle.std.proofs.Common.{◌<◌, [], length, get_or, sym, ap, ◌∙◌, subst, arith}
+use Rattle.std.proofs.Common.{◌<◌, [], length, get_or, ap, ◌∙◌, subst}
 use Rattle.search.proofs.Picked.{chosen-some}
 use Rattle.search.proofs.choices.is_picked.Goals as goal
 

@@ -1,4 +1,4 @@
-use Rattle.std.proofs.Common.{[], sym, refl, ap, ◌∙◌, arith}
+use Rattle.std.proofs.Common.{[], sym, refl, ap, ◌∙◌}
 use Rattle.search.proofs.Breaks.{keeps_functional}
 use Rattle.search.proofs.Entries.{fitting}
 use Rattle.search.proofs.Groups.{fine_empty}

@@ -1,4 +1,4 @@
-use Rattle.std.proofs.Common.{refl, arith}
+use Rattle.std.proofs.Common.{arith}
 use Rattle.search.proofs.Begun.{group_room}
 use Rattle.search.proofs.Breaks.{break_parting}
 use Rattle.search.proofs.Groups.{turn_first}

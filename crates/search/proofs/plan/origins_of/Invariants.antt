@@ -1,4 +1,4 @@
-use Rattle.std.proofs.Common.{◌≡◌, ◌+◌, ◌-◌, ◌≤◌, length}
+use Rattle.std.proofs.Common.{◌≡◌, ◌+◌, ◌-◌, length}
 use Rattle.search.specs.Placings.{OriginsFrom, OriginsOf, RowsFit}
 use Rattle.search.proofs.plan.origins_of.Given as goal
 

@@ -1,4 +1,4 @@
-use Rattle.std.proofs.Common.{length, arith, length-set, rules}
+use Rattle.std.proofs.Common.{arith, length-set}
 use Rattle.search.specs.Placings.{Leaves}
 use Rattle.search.proofs.Plans.{tests_set, planned_all}
 use Rattle.search.proofs.plan.plan_of.Goals as goal

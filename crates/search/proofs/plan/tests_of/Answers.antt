@@ -1,4 +1,4 @@
-use Rattle.std.proofs.Common.{◌≡◌, ◌+◌, length, sym, ◌∙◌, subst, arith, length-set}
+use Rattle.std.proofs.Common.{◌≡◌, ◌+◌, length, sym, subst, arith, length-set}
 use Rattle.search.specs.Placings.{Leaves}
 use Rattle.search.proofs.Plans.{leaves_own, leaves_test}
 use Rattle.search.proofs.plan.tests_of.Goals as goal

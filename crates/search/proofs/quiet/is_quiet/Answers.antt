@@ -1,5 +1,4 @@
-use Rattle.std.proofs.Common.{subst, arith, below_more}
-use Rattle.std.proofs.lemmas.Bool.{both_ways}
+use Rattle.std.proofs.Common.{subst, below_more}
 use Rattle.search.specs.Placings.{OneValue}
 use Rattle.search.proofs.Columns.{same_constant, same_column}
 use Rattle.search.proofs.quiet.is_quiet.Goals as goal

@@ -1,4 +1,4 @@
-use Rattle.std.proofs.Common.{◌+◌, sym, subst, arith, rules}
+use Rattle.std.proofs.Common.{◌+◌, sym, subst, arith}
 use Rattle.rules.specs.Loaded.{code_at}
 use Rattle.search.specs.Placings.{SoFar}
 use Rattle.search.proofs.Columns.{so_far_unlike, so_far_none, so_far_some, so_far_all}

@@ -1,4 +1,4 @@
-use Rattle.std.proofs.Common.{refl, arith, rules}
+use Rattle.std.proofs.Common.{refl, arith}
 use Rattle.std.proofs.lemmas.Nat.{shr_below}
 use Rattle.search.proofs.Tabled.{hash_more, hash_bucket}
 use Rattle.search.proofs.seen.bucket_of.Goals as goal

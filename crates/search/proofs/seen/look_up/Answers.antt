@@ -1,4 +1,3 @@
-use Rattle.std.proofs.Common.{arith, rules}
 use Rattle.std.proofs.lemmas.Bool.{both_ways}
 use Rattle.search.proofs.Tabled.{walk_start, walk_step, walk_end}
 use Rattle.search.proofs.seen.look_up.Goals as goal

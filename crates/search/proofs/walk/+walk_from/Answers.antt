@@ -1,7 +1,7 @@
 use Rattle.std.proofs.Common.{◌≡◌, length, refl, subst, arith, rules, below_more}
 use Rattle.std.proofs.lemmas.Bool.{both_ways}
 use Rattle.search.specs.Placings.{Joins, With}
-use Rattle.search.proofs.Walks.{joins_here, splits_here, landed_more, tried_clash, tried_next, tried_all}
+use Rattle.search.proofs.Walks.{joins_here, landed_more, tried_clash, tried_next, tried_all}
 use Rattle.search.proofs.walk.+walk_from.Goals as goal
 use Rattle.search.proofs.walk.+walk_from.Goals.{then-lands+in_default, else-lands}
 

@@ -1,4 +1,4 @@
-use Rattle.std.proofs.Common.{sym, ◌∙◌, arith}
+use Rattle.std.proofs.Common.{sym, ◌∙◌}
 use Rattle.search.proofs.Valuations.{value-constant, value-symbol}
 use Rattle.search.proofs.walk.number_of.Goals as goal
 

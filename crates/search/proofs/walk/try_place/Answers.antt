@@ -1,4 +1,4 @@
-use Rattle.std.proofs.Common.{replicate, refl, subst, arith, rules}
+use Rattle.std.proofs.Common.{replicate, subst, arith}
 use Rattle.std.proofs.lemmas.Bool.{both_ways}
 use Rattle.search.specs.Placings.{Joins, With}
 use Rattle.search.proofs.Walks.{first-placed, landed_more, tried_clash}

@@ -1,4 +1,4 @@
-use Rattle.std.proofs.Common.{sym, ◌∙◌, inl, inr, arith, rules}
+use Rattle.std.proofs.Common.{sym, ◌∙◌, inl, inr, arith}
 use Rattle.std.proofs.lemmas.List.{at_drop_all}
 use Rattle.text.specs.Lines.{clean}
 use Rattle.text.proofs.Steps.{clean-more, clean-stops}

@@ -1,6 +1,5 @@
-use Rattle.std.proofs.Common.{sym, refl, ap, ◌∙◌, arith}
+use Rattle.std.proofs.Common.{sym, ap, ◌∙◌, arith}
 use Rattle.std.proofs.lemmas.Slice.{between_is}
-use Rattle.std.proofs.lemmas.List.{drop_all}
 use Rattle.text.specs.Lines.{clean}
 use Rattle.text.proofs.Parts.{short_front}
 use Rattle.text.proofs.lines.line_clean.Goals as goal

@@ -1,8 +1,7 @@
-use Rattle.std.proofs.Common.{◌≡◌, ◌+◌, ◌-◌, ◌<◌, ◌≤◌, true, false, not, map, length, get_or, drop, sym, ap, ◌∙◌, arith}
+use Rattle.std.proofs.Common.{◌≡◌, true, false, not, map, get_or, sym, ap, ◌∙◌, arith}
 use lib.ListN.{length-map}
 use Rattle.std.proofs.lemmas.List.{get_or-map}
 use Rattle.text.specs.Words.{same_word}
-use Rattle.text.specs.declared.words.Name.{Name}
 use Rattle.text.specs.Words.{part, differs}
 use Rattle.text.proofs.Steps.{front-more, front-here, front-all}
 use Rattle.text.proofs.words.number_in.Goals as goal

@@ -1,7 +1,6 @@
-use Rattle.std.proofs.Common.{◌≡◌, ℕ, ◌+◌, ◌<◌, ◌≤◌, max, length, sym, refl, ap, ◌∙◌, subst, arith}
+use Rattle.std.proofs.Common.{◌<◌, ◌≤◌, max, length, sym, refl, subst, arith}
 use Rattle.rules.specs.Books.{base}
 use Rattle.law.specs.Groups.{group_count}
-use Rattle.law.specs.Runs.{OpenSpot}
 use Rattle.trial.specs.declared.held.Held.{Held}
 use Rattle.trial.specs.Views.{rows_of, shows_of}
 use Rattle.trial.proofs.Merges.{merged_none, merged_more, clashed_on, spot_open, rests, room, falls}

@@ -1,4 +1,4 @@
-use Rattle.std.proofs.Common.{◌≡◌, List, [], map, vec_items, sym, refl, ap, ◌∙◌, subst, arith}
+use Rattle.std.proofs.Common.{List, [], map, vec_items, sym, ap, subst}
 use Rattle.std.proofs.lemmas.List.{take_all}
 use Rattle.law.specs.Calls.{Answer}
 use Rattle.trial.specs.declared.request.Request.{Request}

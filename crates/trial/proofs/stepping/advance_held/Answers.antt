@@ -1,4 +1,3 @@
-use Rattle.std.proofs.Common.{◌≡◌}
 use Rattle.law.specs.Calls.{Advance, Made}
 use Rattle.law.specs.declared.outcome.Stop.TheVariants.{Clash}
 use Rattle.law.proofs.Stands.{call_promised}

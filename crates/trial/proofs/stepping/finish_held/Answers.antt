@@ -1,4 +1,4 @@
-use Rattle.std.proofs.Common.{◌≡◌, sym, ◌∙◌}
+use Rattle.std.proofs.Common.{sym, ◌∙◌}
 use Rattle.law.specs.declared.outcome.Verdict.TheVariants.{Void, Follows}
 use Rattle.law.proofs.Stands.{finish_promised}
 use Rattle.trial.specs.Views.{view}

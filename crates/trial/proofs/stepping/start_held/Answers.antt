@@ -1,4 +1,3 @@
-use Rattle.std.proofs.Common.{◌≡◌}
 use Rattle.law.specs.Calls.{Start, Done}
 use Rattle.law.proofs.Stands.{call_promised}
 use Rattle.trial.specs.Faults.{refused}
