@@ -1,4 +1,5 @@
 // Where a text comes from.
+use anyhow::anyhow;
 use std::fs;
 use std::io::Read;
 
@@ -11,11 +12,6 @@ pub fn read_input(rt: &HostRuntime) -> anyhow::Result<Vec<u8>> {
 pub fn read_file(rt: &HostRuntime, path: &str) -> anyhow::Result<Vec<u8>> {
     match fs::read(rt, path) {
         Ok(text) => Ok(text),
-        Err(_) => Err(unreadable(rt, path)?),
+        Err(_) => Err(anyhow!("cannot read the file '{path}'")),
     }
-}
-
-fn unreadable(rt: &HostRuntime, path: &str) -> anyhow::Result<anyhow::Error> {
-    let text = format!(in rt.alloc(); "cannot read the file '{path}'")?;
-    Ok(text.into())
 }

@@ -7,6 +7,7 @@ mod help;
 mod input;
 
 use answer::answer;
+use anyhow::anyhow;
 use checking::check;
 use help::print_help;
 use input::{read_file, read_input};
@@ -46,5 +47,5 @@ fn run_word(rt: &HostRuntime, word: &str) -> anyhow::Result<()> {
 }
 
 fn too_many() -> anyhow::Error {
-    "too many words after the program's name: see 'bale help'".into()
+    anyhow!("too many words after the program's name: see 'bale help'")
 }

@@ -1,9 +1,9 @@
 -- An output that is closed holds what was to be written, or nothing.
-use Rattle.std.proofs.Common.{◌≡◌, ℕ, ◌+◌, ◌-◌, ◌<◌, ◌≤◌, List, [], ◌∷◌, ◌++◌, length, take, replicate, Ok, Err, Result, sym, refl, ap, ◌∙◌, subst, zero-add, arith}
+use Rattle.std.proofs.Common.{◌≡◌, ℕ, ◌-◌, List, ◌++◌, length, take, replicate, Ok, Err, Result, ap, ◌∙◌, subst, arith}
 use Rattle.pieces.specs.declared.output.Output.{Output}
-use Rattle.pieces.specs.Put.{written, size, Same, Put}
+use Rattle.pieces.specs.Put.{written, size}
 use Rattle.writing.specs.Fitting.{whole, Writes}
-use Rattle.writing.specs.Filling.{Past, Fills, closed_answer, closed_places}
+use Rattle.writing.specs.Filling.{Fills, closed_answer, closed_places}
 
 pub closes : {E : Type 0} (short : ℕ → E) (a b : Output) (ps : List (List ℕ)) (put : Result (Unit {0}) E) → a.used ≡ 0 → Fills short a ps put b → Writes short (size a) ps (closed_answer b put) (closed_places b put)
 closes short a b ps (Ok u) none f =

@@ -1,5 +1,5 @@
 -- How long the lines of a report are.
-use Rattle.std.proofs.Common.{◌≡◌, ℕ, zero, suc, ◌+◌, ◌-◌, ◌*◌, ◌^◌, ◌<◌, ◌≤◌, min, Bool, true, false, cond, ltb, ◌⊎◌, List, [], ◌∷◌, ◌++◌, map, length, get_or, take, drop, decimal, sym, refl, ap, ◌∙◌, subst, inl, inr, ⊎_elim, arith}
+use Rattle.std.proofs.Common.{ℕ, ◌+◌, ◌-◌, ◌*◌, ◌^◌, ◌<◌, ◌≤◌, ltb, List, [], ◌∷◌, ◌++◌, map, length, get_or, drop, decimal, sym, subst, ⊎_elim, arith}
 use Rattle.std.specs.List.{AllByRecursion as All}
 use Rattle.std.proofs.lemmas.List.{length-append, length-take, get_or_past}
 use Rattle.std.proofs.ByRecursion.{All-get_or}
@@ -10,11 +10,10 @@ use Rattle.rules.specs.declared.refusal.Layer.{Layer}
 use Rattle.rules.specs.declared.refusal.Layer.TheVariants as layer
 use Rattle.text.specs.declared.words.Name.{Name}
 use Rattle.text.specs.Words.{part}
-use Rattle.pieces.specs.declared.word.Word.{Word}
 use Rattle.pieces.specs.declared.word.Word.TheVariants as word
 use Rattle.pieces.specs.Table.{bytes_of, layer_word}
 use Rattle.pieces.specs.Lines.{spell, line_of, after}
-use Rattle.writing.specs.Outcomes.{Outcome, Follows, Fails, rows_of}
+use Rattle.writing.specs.Outcomes.{Outcome, Follows, Fails}
 use Rattle.writing.specs.Reports
 use Rattle.writing.specs.Fitting.{whole}
 use Rattle.writing.specs.Enough.{SmallRow, Small, Modest, enough, Enough}

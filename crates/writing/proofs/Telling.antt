@@ -1,5 +1,5 @@
 -- What is told of an outcome.
-use Rattle.std.proofs.Common.{◌≡◌, ℕ, List, length, Some, None, Option, sym, refl, ap, arith}
+use Rattle.std.proofs.Common.{◌≡◌, ℕ, length, Some, None, refl, arith}
 use Rattle.writing.specs.Outcomes.{Outcome, Follows, Fails, rows_of, count_of_rows}
 
 pub told_none : (o : Outcome) → None ≡ count_of_rows o → o ≡ Follows

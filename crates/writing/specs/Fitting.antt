@@ -1,5 +1,5 @@
 -- Parts written one after another into lent places.
-use Rattle.std.specs.Prelude.{◌≡◌, ℕ, ◌+◌, ◌-◌, ◌<◌, ◌≤◌, true, ◌↔◌, List, [], ◌∷◌, ◌++◌, length, take, replicate, is_ok, Result, MatchResult}
+use Rattle.std.specs.Prelude.{◌≡◌, ℕ, ◌+◌, ◌-◌, ◌<◌, ◌≤◌, true, ◌↔◌, List, ◌++◌, length, take, replicate, is_ok, Result, MatchResult}
 use Rattle.std.specs.List.{flat_map}
 use Rattle.writing.specs.declared.room.TooShort.{TooShort}
 use Rattle.writing.specs.Faults.{short_at}

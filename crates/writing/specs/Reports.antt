@@ -1,5 +1,5 @@
 -- A report and a refusal as text.
-use Rattle.std.specs.Prelude.{ℕ, ◌+◌, ◌-◌, cond, List, [], ◌∷◌, ◌++◌, map, length, nat_lt, slice_index_or}
+use Rattle.std.specs.Prelude.{ℕ, ◌+◌, ◌-◌, cond, List, [], ◌∷◌, map, length, nat_lt, slice_index_or}
 use Rattle.std.specs.List.{flat_map}
 use Rattle.rules.specs.Books.{base}
 use Rattle.rules.specs.declared.refusal.Refusal.{Refusal}

@@ -1,4 +1,4 @@
-use Rattle.std.proofs.Common.{◌≡◌, ◌+◌, ◌-◌, ◌<◌, ◌≤◌, [], length, get_or, take, set, Some, None, sym, refl, ap, ◌∙◌, arith, length-set, rules}
+use Rattle.std.proofs.Common.{◌≡◌, ◌+◌, ◌-◌, ◌<◌, ◌≤◌, [], length, get_or, take, set, Some, None, sym, ap, ◌∙◌, arith, length-set, rules}
 use Rattle.std.specs.List.{slice_get}
 use Rattle.pieces.specs.Lines.{line_of}
 use Rattle.pieces.proofs.Steps.{as_puts}

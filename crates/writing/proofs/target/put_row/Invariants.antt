@@ -1,4 +1,4 @@
-use Rattle.std.proofs.Common.{◌≡◌, ℕ, ◌-◌, ◌≤◌, [], map, length, get_or, take}
+use Rattle.std.proofs.Common.{◌≡◌, ◌-◌, ◌≤◌, [], map, length, get_or, take}
 use Rattle.writing.specs.Outcomes.{rows_of}
 use Rattle.writing.specs.Reports.{entry_piece}
 use Rattle.writing.proofs.target.put_row.Given as goal

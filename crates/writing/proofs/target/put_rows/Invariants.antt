@@ -1,4 +1,4 @@
-use Rattle.std.proofs.Common.{ℕ, ◌≤◌, map, drop, Result}
+use Rattle.std.proofs.Common.{◌≤◌, map, drop, Result}
 use Rattle.pieces.specs.declared.output.Output.{Output}
 use Rattle.pieces.specs.declared.output.Short.{Short}
 use Rattle.pieces.specs.Put.{Puts, size}

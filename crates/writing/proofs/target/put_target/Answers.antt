@@ -1,4 +1,4 @@
-use Rattle.std.proofs.Common.{◌≡◌, [], sym, ap, ◌∙◌, append-nil}
+use Rattle.std.proofs.Common.{[], sym, ap, ◌∙◌, append-nil}
 use Rattle.pieces.specs.declared.word.Word.TheVariants as word
 use Rattle.pieces.specs.Lines.{line_of}
 use Rattle.pieces.proofs.Steps.{then-puts, exit_puts, as_puts}
