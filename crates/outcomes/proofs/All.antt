@@ -1,5 +1,5 @@
 -- The laws of outcomes, proved.
-use Rattle.std.proofs.Common.{◌≡◌, ℕ, ◌+◌, Bool, List, sym, refl, subst, arith}
+use Rattle.std.proofs.Common.{◌≡◌, ℕ, ◌+◌, Bool, List, refl, subst, arith}
 use Rattle.rules.specs.Rules.{◌∈◌, Relation, Rule}
 use Rattle.rules.specs.Books.{BookMeaning, base, WellFormed, WellFormedBook}
 use Rattle.rules.specs.Doubled.{doubled_rows, doubled_pairs}
@@ -8,7 +8,7 @@ use Rattle.law.specs.declared.outcome.Verdict.TheVariants as verdict
 use Rattle.law.specs.Groups.{State, current}
 use Rattle.law.specs.Runs.{Run, Ended, none}
 use Rattle.law.proofs.RunEnds.{run_ends}
-use Rattle.writing.specs.Outcomes.{Outcome, Follows, Fails}
+use Rattle.writing.specs.Outcomes.{Outcome, Fails}
 use Rattle.outcomes.specs.Due.{Due}
 use Rattle.outcomes.specs.Laws.{told, ConstantsBelow, Named, OutcomesDue}
 use Rattle.outcomes.proofs.Shown.{ended_due, finished_due}

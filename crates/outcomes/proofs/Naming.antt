@@ -1,8 +1,8 @@
 -- The numbers of the rows that are due.
-use Rattle.std.proofs.Common.{◌≡◌, ℕ, ◌+◌, ◌<◌, ◌≤◌, min, max, cond, eqb, ◌⊎◌, List, map, length, sym, refl, ap, ◌∙◌, subst, inl, inr, arith, length-append}
+use Rattle.std.proofs.Common.{ℕ, ◌<◌, ◌≤◌, min, max, eqb, ◌⊎◌, List, map, length, sym, ap, subst, inl, inr, arith, length-append}
 use mathlib.Core.List.Memᴰ
 use lib.ListN.{length-map}
-use Rattle.std.proofs.lemmas.Bool.{cond_both, cases_lt}
+use Rattle.std.proofs.lemmas.Bool.{cond_both}
 use Rattle.rules.specs.declared.term.Term.{Term}
 use Rattle.rules.specs.declared.term.Term.TheVariants.{Constant, Variable}
 use Rattle.rules.specs.declared.term.Kind.{Kind}
@@ -10,10 +10,10 @@ use Rattle.rules.specs.declared.term.Kind.TheVariants.{Functional, Equality}
 use Rattle.rules.specs.Rules.{◌∈◌, Relation, Pattern, Valuation, at, Places, Rule}
 use Rattle.rules.specs.Books.{BookMeaning, base, Stands, Known, WellFormed, WellFormedBook}
 use Rattle.rules.specs.Doubled.{copied, doubled_rows_as, doubled_rows}
-use Rattle.law.specs.Groups.{State, Alone, current}
-use Rattle.law.specs.Runs.{OpenSpot, Merge, Merges, none, more, Run}
+use Rattle.law.specs.Groups.{State, current}
+use Rattle.law.specs.Runs.{Merge, Merges, none, more, Run}
 use Rattle.law.proofs.Lists.{at-min}
-use Rattle.law.proofs.Starting.{Fit, starts_fit}
+use Rattle.law.proofs.Starting.{starts_fit}
 use Rattle.law.proofs.Lawful.{Lawful, run_lawful}
 use Rattle.outcomes.specs.Due.{RowsDue}
 use Rattle.outcomes.specs.Laws.{Below, ConstantsBelow, Named, FewRows}

@@ -1,21 +1,19 @@
 -- A run that has ended gives the outcome that is due.
-use Rattle.std.proofs.Common.{◌≡◌, ℕ, ◌+◌, ◌<◌, ◌≤◌, Bool, true, false, ◌⊎◌, List, sym, refl, ap, ◌∙◌, subst, inl, inr, arith}
+use Rattle.std.proofs.Common.{◌≡◌, ℕ, ◌<◌, ◌≤◌, Bool, sym, refl, ◌∙◌, subst, inl, inr, arith}
 use Rattle.std.proofs.lemmas.Bool.{cases_lt}
-use Rattle.rules.specs.declared.term.Term.{Term}
 use Rattle.rules.specs.declared.term.Term.TheVariants.{Constant, Variable}
 use Rattle.rules.specs.Rules.{Pattern, Rule}
 use Rattle.rules.specs.Books.{BookMeaning, base, Stands, WellFormed, WellFormedBook}
 use Rattle.rules.specs.Doubled.{doubled_rows, doubled_pairs}
 use Rattle.law.specs.declared.outcome.Verdict.{Verdict}
 use Rattle.law.specs.declared.outcome.Verdict.TheVariants as verdict
-use Rattle.law.specs.Groups.{State, Alone, current, Forced}
+use Rattle.law.specs.Groups.{State, Alone, current}
 use Rattle.law.specs.Runs.{AtRest, Run, Ended, clash_met, pairs_met, pairs_apart}
 use Rattle.law.specs.Calls.{Started, Going, fresh, moved, rows_told, Finished, Finishes, finish_width, clashed_before, ended}
 use Rattle.law.proofs.Starting.{Fit, starts_fit}
 use Rattle.law.proofs.Sound.{forced, rest_exact, clash-impossible}
 use Rattle.law.proofs.Lawful.{Lawful, run_lawful}
 use Rattle.law.proofs.Verdicts.{reached_implied, impossible_implied, rest_breaks, rest_alike}
-use Rattle.writing.specs.Outcomes.{Outcome}
 use Rattle.outcomes.specs.Due.{Shows, as_constant, as_symbol, Due}
 use Rattle.outcomes.specs.Laws.{told, outcome_of}
 

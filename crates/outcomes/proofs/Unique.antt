@@ -1,14 +1,11 @@
 -- No two outcomes are due to one target.
-use Rattle.std.proofs.Common.{◌≡◌, ℕ, ◌+◌, ◌<◌, ◌≤◌, ◌⊎◌, List, sym, refl, ap, ◌∙◌, subst, inl, inr, arith}
+use Rattle.std.proofs.Common.{◌≡◌, ℕ, sym, refl, ap, ◌∙◌, inl, inr, arith}
 use Rattle.std.proofs.lemmas.Bool.{cases_eq}
-use Rattle.rules.specs.declared.term.Term.{Term}
-use Rattle.rules.specs.declared.term.Term.TheVariants.{Constant, Variable}
 use Rattle.rules.specs.Rules.{Relation, Pattern, Rule}
-use Rattle.rules.specs.Books.{BookMeaning, base, Stands, WellFormed, WellFormedBook}
+use Rattle.rules.specs.Books.{BookMeaning, WellFormed, WellFormedBook}
 use Rattle.rules.specs.Doubled.{doubled_rows}
 use Rattle.law.specs.Implied.{Counterexample}
-use Rattle.law.specs.Groups.{State, current}
-use Rattle.law.proofs.Starting.{Fit, starts_fit}
+use Rattle.law.proofs.Starting.{starts_fit}
 use Rattle.law.proofs.SameEnd.{same_rows}
 use Rattle.law.proofs.Verdicts.{impossible_implied, no_counterexample}
 use Rattle.writing.specs.Outcomes.{Outcome, Follows, Fails}

@@ -1,6 +1,6 @@
 -- What the reader's lists hold, as parts of the text.
 use Rattle.std.specs.Prelude.{◌≡◌, ℕ, ◌+◌, ◌≤◌, List, map, length, Ok, Err, Result, MatchResult}
-use Rattle.std.specs.List.{AllByRecursion as All}
+use Rattle.std.specs.List.{AllByRecursion}
 use Rattle.text.specs.declared.list.Places.{Places}
 use Rattle.text.specs.declared.words.Name.{Name}
 use Rattle.text.specs.Filled.{items, room, Same}
@@ -44,7 +44,7 @@ Within l = l.used ≤ room l
 -- what stays true of a list of names
 pub record Fine (text : List ℕ) (l : Places Name) : Type 0 where
   pub within : Within l
-  pub inside : All (Inside text) (items l)
+  pub inside : AllByRecursion (Inside text) (items l)
 
 -- what stays true of the desk
 pub record Good (text : List ℕ) (d : Desk) : Type 0 where

@@ -1,7 +1,7 @@
 -- Every constant in the rows of an outcome has a name, and so every report is short enough for one output.
 use Rattle.std.proofs.Common.{◌≡◌, ℕ, zero, suc, ◌+◌, ◌-◌, ◌^◌, ◌<◌, ◌≤◌, true, ◌⊎◌, List, [], ◌∷◌, ◌++◌, map, length, replicate, sym, refl, ap, ◌∙◌, subst, inl, inr, ⊎_elim, arith}
 use mathlib.Core.List.Memᴰ
-use Rattle.std.specs.List.{AllByRecursion as All}
+use Rattle.std.specs.List.{AllByRecursion}
 use Rattle.rules.specs.declared.term.Term.{Term}
 use Rattle.rules.specs.declared.term.Term.TheVariants.{Constant, Variable}
 use Rattle.rules.specs.Rules.{◌∈◌, Rule}
@@ -21,7 +21,7 @@ use Rattle.report.specs.Reported.{EachDue}
 use Rattle.report.specs.Answered.{RowsNamed, OutcomesOf}
 use Rattle.report.proofs.Tried.{nth_member, target_fits}
 
-from_mem : {X : Type 0} (P : X → Type 0) (xs : List X) → ((x : X) → x ∈ xs → P x) → All P xs
+from_mem : {X : Type 0} (P : X → Type 0) (xs : List X) → ((x : X) → x ∈ xs → P x) → AllByRecursion P xs
 from_mem P [] h = tt
 from_mem P (x ∷ xs) h = (h x (Memᴰ.head refl), from_mem P xs (λ y q. h y (Memᴰ.tail q)))
 
@@ -30,23 +30,23 @@ below_too N (Constant c) h = h
 below_too N (Variable v) h = tt
 
 module _ (b : BookMeaning) (book_fits : WellFormedBook b) (ts : BookMeaning) (targets_fit : WellFormedBook ts) (w : ts.width ≡ b.width) (N : ℕ)
-    (book_below : All (RuleBelow N) b.rules) (targets_below : All (RuleBelow N) ts.rules) where
+    (book_below : AllByRecursion (RuleBelow N) b.rules) (targets_below : AllByRecursion (RuleBelow N) ts.rules) where
   constants : (t : Rule) → t ∈ ts.rules → ConstantsBelow N b t
   constants t q = record {
     pairs = λ r qr p qp.
         let h = all_mem (PairBelow N) r.pairs (all_mem (RuleBelow N) b.rules book_below r qr).1 p qp in
         (below_too N p.0 h.0, below_too N p.1 h.1);
-    rows = λ row qr e qe. below_too N e (all_mem (spelled.Below N) row (all_mem (All (spelled.Below N)) t.pattern (all_mem (RuleBelow N) ts.rules targets_below t q).0 row qr) e qe);
+    rows = λ row qr e qe. below_too N e (all_mem (spelled.Below N) row (all_mem (AllByRecursion (spelled.Below N)) t.pattern (all_mem (RuleBelow N) ts.rules targets_below t q).0 row qr) e qe);
   }
 
   at_named : (i : ℕ) (o : Outcome) → DueAt b ts i o → RowsNamed N o
   at_named i Follows d = tt
   at_named i (Fails rows) d =
-      from_mem (All (Named N)) rows (λ row qr. from_mem (Named N) row (λ e qe.
+      from_mem (AllByRecursion (Named N)) rows (λ row qr. from_mem (Named N) row (λ e qe.
       outcomes_due.named b book_fits d.target (target_fits b book_fits ts targets_fit w i d.target d.listed) N
       (constants d.target (nth_member ts.rules i d.target d.listed)) rows d.is_due row qr e qe))
 
-  pub all_named : (i : ℕ) (os : List Outcome) → EachDue b ts i os → All (RowsNamed N) os
+  pub all_named : (i : ℕ) (os : List Outcome) → EachDue b ts i os → AllByRecursion (RowsNamed N) os
   all_named i [] d = tt
   all_named i (o ∷ os) d = (at_named i o d.0, all_named (i + 1) os d.1)
 
@@ -64,28 +64,28 @@ module _ (b : BookMeaning) (book_fits : WellFormedBook b) (ts : BookMeaning) (ta
         few = f.few;
         each = from_mem SmallRow rows (λ row q. record {
           wide = omega (arith, f.wide row q);
-          words = from_mem (λ e. e < 2 ^ 32) row (λ e qe. word_of few e (all_mem (Named N) row (all_mem (All (Named N)) rows h row q) e qe));
+          words = from_mem (λ e. e < 2 ^ 32) row (λ e qe. word_of few e (all_mem (Named N) row (all_mem (AllByRecursion (Named N)) rows h row q) e qe));
         });
       }
 
-  all_small : N ≤ 4096 → (i : ℕ) (os : List Outcome) → EachDue b ts i os → All (RowsNamed N) os → All Small os
+  all_small : N ≤ 4096 → (i : ℕ) (os : List Outcome) → EachDue b ts i os → AllByRecursion (RowsNamed N) os → AllByRecursion Small os
   all_small few i [] d h = tt
   all_small few i (o ∷ os) d h = (small_at few i o d.0 h.0, all_small few (i + 1) os d.1 h.1)
 
   -- names of at most 24 bytes, and places that are not used
-  short_names : (ws : List Word) → All Short ws → All (λ n. n.length ≤ 24) (map name_of ws)
+  short_names : (ws : List Word) → AllByRecursion Short ws → AllByRecursion (λ n. n.length ≤ 24) (map name_of ws)
   short_names [] h = tt
   short_names (x ∷ ws) h = (h.0, short_names ws h.1)
 
-  short_blank : (k : ℕ) → All (λ n. n.length ≤ 24) (replicate k no_name)
+  short_blank : (k : ℕ) → AllByRecursion (λ n. n.length ≤ 24) (replicate k no_name)
   short_blank zero = tt
   short_blank (suc k) = (omega arith, short_blank k)
 
-  all_append : (xs ys : List Name) → All (λ n. n.length ≤ 24) xs → All (λ n. n.length ≤ 24) ys → All (λ n. n.length ≤ 24) (xs ++ ys)
+  all_append : (xs ys : List Name) → AllByRecursion (λ n. n.length ≤ 24) xs → AllByRecursion (λ n. n.length ≤ 24) ys → AllByRecursion (λ n. n.length ≤ 24) (xs ++ ys)
   all_append [] ys a c = c
   all_append (x ∷ xs) ys a c = (a.0, all_append xs ys a.1 c)
 
-  pub modest : (size : ℕ) (ws : List Word) (os : List Outcome) → N ≤ 4096 → All Short ws → length ts.rules ≤ 256 → OutcomesOf b ts os → Modest (padded size no_name (map name_of ws)) os
+  pub modest : (size : ℕ) (ws : List Word) (os : List Outcome) → N ≤ 4096 → AllByRecursion Short ws → length ts.rules ≤ 256 → OutcomesOf b ts os → Modest (padded size no_name (map name_of ws)) os
   modest size ws os few short many due = record {
     few = omega (arith, due.long);
     each = all_small few 0 os due.each (all_named 0 os due.each);

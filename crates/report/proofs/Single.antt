@@ -25,7 +25,7 @@ use Rattle.report.specs.Laws.{OneReport}
 use Rattle.report.proofs.Tried.{target_fits}
 use Rattle.report.proofs.Naming.{modest}
 use Rattle.report.proofs.Sounds.{ReadAs, answered_as}
-use Rattle.std.specs.List.{AllByRecursion as All}
+use Rattle.std.specs.List.{AllByRecursion}
 use Rattle.spelling.proofs.Named.{Short}
 
 some_rule : (t t' : Rule) → Some t ≡ Some t' → t ≡ t'
@@ -103,4 +103,4 @@ always_fits l text m q os a =
     let f = answered_as l text m q a in
     report_enough text (names_in l m) os
     (modest a.book f.book_fits.well a.targets f.targets_fit.well f.one_width (length a.known) f.book_below f.targets_below
-    l.names m.names os f.few_names (subst (All Short) (sym f.names_read) f.short) f.targets_fit.few a.due)
+    l.names m.names os f.few_names (subst (AllByRecursion Short) (sym f.names_read) f.short) f.targets_fit.few a.due)

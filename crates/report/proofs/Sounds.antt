@@ -1,6 +1,6 @@
 -- What is read is two sheets that pass the check, with books of one width: those that the text spells.
 use Rattle.std.proofs.Common.{◌≡◌, ℕ, ◌-◌, ◌<◌, ◌≤◌, List, ◌++◌, length, replicate, Ok, Err, Result, sym, refl, ap, ◌∙◌, subst, arith}
-use Rattle.std.specs.List.{AllByRecursion as All}
+use Rattle.std.specs.List.{AllByRecursion}
 use Rattle.rules.specs.Books.{BookMeaning, base}
 use Rattle.sheets.specs.Laws.{Fitting, Passing, WrittenPasses, PassingIsWritten}
 use Rattle.sheets.specs.Layout.{layout}
@@ -33,9 +33,9 @@ pub record ReadAs (text : List ℕ) (m : Memo) (book targets : BookMeaning) (kno
   pub few_names : length known ≤ 4096
   pub book_fits : Fitting book
   pub targets_fit : Fitting targets
-  pub book_below : All (RuleBelow (length known)) book.rules
-  pub targets_below : All (RuleBelow (length known)) targets.rules
-  pub short : All Short known
+  pub book_below : AllByRecursion (RuleBelow (length known)) book.rules
+  pub targets_below : AllByRecursion (RuleBelow (length known)) targets.rules
+  pub short : AllByRecursion Short known
 
 read_as : (text : List ℕ) (m : Memo) (book targets : BookMeaning) (known : List Word) → length m.names ≤ 4096 → m.rules ≡ layout book → m.targets ≡ layout targets → m.names ≡ known →
     SpellsBook text book targets known → ReadAs text m book targets known
@@ -57,9 +57,9 @@ read_as text m book targets known few er et en s =
       few_names = omega arith;
       book_fits = subst Fitting (sym s.book_is) fit.0;
       targets_fit = subst Fitting (sym s.targets_is) fit.1;
-      book_below = subst (λ (i : ℕ). All (RuleBelow i) book.rules) many (subst (λ (b : BookMeaning). All (RuleBelow N) b.rules) (sym s.book_is) n.book);
-      targets_below = subst (λ (i : ℕ). All (RuleBelow i) targets.rules) many (subst (λ (b : BookMeaning). All (RuleBelow N) b.rules) (sym s.targets_is) n.targets);
-      short = subst (All Short) (sym s.names_are) n.short;
+      book_below = subst (λ (i : ℕ). AllByRecursion (RuleBelow i) book.rules) many (subst (λ (b : BookMeaning). AllByRecursion (RuleBelow N) b.rules) (sym s.book_is) n.book);
+      targets_below = subst (λ (i : ℕ). AllByRecursion (RuleBelow i) targets.rules) many (subst (λ (b : BookMeaning). AllByRecursion (RuleBelow N) b.rules) (sym s.targets_is) n.targets);
+      short = subst (AllByRecursion Short) (sym s.names_are) n.short;
     }
 
 -- what an answer says of what was read

@@ -1,6 +1,6 @@
 -- The whole answer to a text: what was read, the outcomes with a name for every constant, and what each place then holds.
 use Rattle.std.specs.Prelude.{◌≡◌, ℕ, List, length, replicate, Ok, Err, Result}
-use Rattle.std.specs.List.{AllByRecursion as All}
+use Rattle.std.specs.List.{AllByRecursion}
 use Rattle.rules.specs.Books.{BookMeaning}
 use Rattle.sheets.specs.Layout.{layout}
 use Rattle.text.specs.declared.words.Name.{Name}
@@ -21,7 +21,7 @@ use Rattle.report.specs.Reported.{EachDue, HoldsRead, names_in}
 
 -- every entry of the rows is one of the first n constants, or a symbol
 abbrev pub RowsNamed : ℕ → Outcome → Type 0
-RowsNamed n o = All (All (Named n)) (rows_of o)
+RowsNamed n o = AllByRecursion (AllByRecursion (Named n)) (rows_of o)
 
 -- one outcome for each target, the one that is due to it
 pub record OutcomesOf (b targets : BookMeaning) (os : List Outcome) : Type 0 where
@@ -44,7 +44,7 @@ pub record Answered (text : List ℕ) (m : Memo) (outcomes : List Outcome) : Typ
   pub targets_read : m.targets ≡ layout targets
   pub names_read : m.names ≡ known
   pub due : OutcomesOf book targets outcomes
-  pub named : All (RowsNamed (length known)) outcomes
+  pub named : AllByRecursion (RowsNamed (length known)) outcomes
 
 -- The report: these outcomes, written into an output of so many places, or the refusal that it is too short.
 pub record WholeReport (text : List ℕ) (l : Lent) (m : Memo) (room : ℕ) (r : Result ℕ ReportFault) (rs ts : List ℕ) (ns : List Name) (out : List ℕ) : Type 0 where

@@ -2,7 +2,7 @@
 use Rattle.std.proofs.Common.{◌≡◌, ℕ, zero, suc, ◌+◌, ◌-◌, ◌*◌, ◌<◌, ◌≤◌, true, eqb, ltb, leb, List, [], ◌∷◌, ◌++◌, map, length, get_or, take, drop, Ok, sym, refl, ap, ◌∙◌, subst, ⊎_elim, append_assoc, suc-mul, zero-mul, arith}
 use mathlib.Core.List.Memᴰ
 use mathlib.Core.List.{Memᴰ}
-use Rattle.std.specs.List.{flat_map, AllByRecursion as All}
+use Rattle.std.specs.List.{flat_map, AllByRecursion}
 use Rattle.std.proofs.lemmas.List.{take_at, drop_at, drop-drop, length-append, length-drop, length-map, get_or-drop, get_or_append_left}
 use Rattle.std.proofs.ByRecursion.{All-get_or, All-append}
 use Rattle.std.proofs.lemmas.Bool.{lt-ltb, le-ltb, le-leb, eq-eqb, and_from, or_left, or_right, or_cases, and_parts, leb-true, ltb-true}
@@ -63,7 +63,7 @@ pub at_front : (words : List ℕ) (at n : ℕ) (xs ys : List ℕ) → length xs 
 at_front words at n xs ys l e = (sym (drop-drop n at words) ∙ (ap (drop n) e ∙ drop_at xs ys n l), ap (take n) e ∙ take_at xs ys n l)
 
 -- what holds of each word of a list holds at each place where it stands
-pub all_points : (P : ℕ → Type 0) (words : List ℕ) (at n : ℕ) (xs ys : List ℕ) → length xs ≡ n → drop at words ≡ xs ++ ys → All P xs → (p : ℕ) → at ≤ p → p < at + n → P (get_or words p 0)
+pub all_points : (P : ℕ → Type 0) (words : List ℕ) (at n : ℕ) (xs ys : List ℕ) → length xs ≡ n → drop at words ≡ xs ++ ys → AllByRecursion P xs → (p : ℕ) → at ≤ p → p < at + n → P (get_or words p 0)
 all_points P words at n xs ys l e h p a b =
     let k = p - at in
     let i : k < length xs = omega arith in
@@ -76,7 +76,7 @@ joined_length g size [] h = omega (arith, zero-mul size)
 joined_length g size (x ∷ xs) h =
     omega (arith, length-append (g x) (flat_map g xs), h x (Memᴰ.head refl), joined_length g size xs (λ y m. h y (Memᴰ.tail m)), suc-mul (length xs) size)
 
-pub all_joined : {X : Type 0} (P : ℕ → Type 0) (g : X → List ℕ) (xs : List X) → ((x : X) → x ∈ xs → All P (g x)) → All P (flat_map g xs)
+pub all_joined : {X : Type 0} (P : ℕ → Type 0) (g : X → List ℕ) (xs : List X) → ((x : X) → x ∈ xs → AllByRecursion P (g x)) → AllByRecursion P (flat_map g xs)
 all_joined P g [] h = tt
 all_joined P g (x ∷ xs) h = All-append P (g x) (flat_map g xs) (h x (Memᴰ.head refl)) (all_joined P g xs (λ y m. h y (Memᴰ.tail m)))
 
@@ -105,7 +105,7 @@ entry-passes : (t : Term) → Small t → passes Entry [] (word_of t) ≡ true
 entry-passes (Constant c) h = lt-ltb c limit (omega arith)
 entry-passes (Variable v) h = lt-ltb (base + v) limit (omega arith)
 
-row_passes : (row : List Term) → ((t : Term) → t ∈ row → Small t) → All (λ w. passes Entry [] w ≡ true) (map word_of row)
+row_passes : (row : List Term) → ((t : Term) → t ∈ row → Small t) → AllByRecursion (λ w. passes Entry [] w ≡ true) (map word_of row)
 row_passes [] h = tt
 row_passes (t ∷ ts) h = (entry-passes t (h t (Memᴰ.head refl)), row_passes ts (λ u m. h u (Memᴰ.tail m)))
 
@@ -175,7 +175,7 @@ length-pair_words : (k : Kind) (p : Term × Term) → length (pair_words k p) �
 length-pair_words Functional p = refl
 length-pair_words Equality p = refl
 
-pair_passes : (pattern : Pattern) (k : Kind) (p : Term × Term) → PairOf k p → Known pattern p.0 × Known pattern p.1 → All (λ w. passes (pair_want (kind_word k)) (flat_map (map word_of) pattern) w ≡ true) (pair_words k p)
+pair_passes : (pattern : Pattern) (k : Kind) (p : Term × Term) → PairOf k p → Known pattern p.0 × Known pattern p.1 → AllByRecursion (λ w. passes (pair_want (kind_word k)) (flat_map (map word_of) pattern) w ≡ true) (pair_words k p)
 pair_passes pattern Functional p (v, e) n =
     let s = subst (λ (q : Term × Term). Known pattern q.0) e n.0 in
     let l : word_of p.0 ≡ base + v = ap (λ q. word_of q.0) e in

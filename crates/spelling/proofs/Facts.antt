@@ -2,7 +2,7 @@
 use Rattle.std.proofs.Common.{◌≡◌, ℕ, suc, ◌+◌, ◌*◌, ◌<◌, ◌≤◌, Bool, true, false, cond, not, ◌||◌, eqb, List, [], ◌∷◌, ◌++◌, length, sym, refl, ap, ◌∙◌, subst, ⊎_elim, arith, length-append}
 use mathlib.Core.List.Memᴰ
 use lib.ListN.{length-map}
-use Rattle.std.specs.List.{AllByRecursion as All}
+use Rattle.std.specs.List.{AllByRecursion}
 use Rattle.std.proofs.lemmas.List.Sums.{prefix_len-le-length}
 use Rattle.std.proofs.lemmas.Bool.{cases_Bool, cases_lt, and_parts, eqb-true, ltb-true, ltb-false, cond-true, cond-false}
 use Rattle.text.specs.Words.{Word, bytes_of, is_variable, differs}
@@ -17,7 +17,7 @@ use Rattle.reader.specs.Format.{Memo, number_of, seen_in, all_terms, all_known, 
 use Rattle.spelling.specs.Draft.{add, extend_in, extend, put, puts, puts_all, LinesOk}
 use Rattle.spelling.specs.Book.{term_in, row_terms, pattern_of}
 
-pub all_mem : {X : Type 0} (P : X → Type 0) (xs : List X) → All P xs → (x : X) → x ∈ xs → P x
+pub all_mem : {X : Type 0} (P : X → Type 0) (xs : List X) → AllByRecursion P xs → (x : X) → x ∈ xs → P x
 all_mem P [] h x m = absurd (Memᴰ.not-nil m)
 all_mem P (y ∷ ys) h x m = ⊎_elim (λ e. subst P (sym e) h.0) (λ k. all_mem P ys h.1 x k) (Memᴰ.cases_cons m)
 
@@ -116,7 +116,7 @@ pub record RowFacts (m n : Memo) (many : ℕ) (ts : List Term) : Type 0 where
   pub few : length n.vars ≤ length m.vars + many
   pub width : n.width ≡ m.width
   pub long : length ts ≡ many
-  pub small : (N : ℕ) → N < base → length n.names ≤ N → length n.vars ≤ 32 → All Small ts
+  pub small : (N : ℕ) → N < base → length n.names ≤ N → length n.vars ≤ 32 → AllByRecursion Small ts
   pub new : (v : ℕ) → length m.vars ≤ v → v < length n.vars → Variable v ∈ ts
 
 pub puts-facts : (m : Memo) (ws : List Word) → RowFacts m (puts m ws) (length ws) (row_terms m ws)
@@ -141,8 +141,8 @@ pub record AllFacts (m n : Memo) (many : ℕ) (rows : List (List Term)) : Type 0
   pub few : length n.vars ≤ length m.vars + 8 * many
   pub vars : length m.vars ≤ length n.vars
   pub width : n.width ≡ m.width
-  pub long : All (λ row. length row ≡ m.width) rows
-  pub small : (N : ℕ) → N < base → length n.names ≤ N → length n.vars ≤ 32 → All (All Small) rows
+  pub long : AllByRecursion (λ row. length row ≡ m.width) rows
+  pub small : (N : ℕ) → N < base → length n.names ≤ N → length n.vars ≤ 32 → AllByRecursion (AllByRecursion Small) rows
   pub new : (v : ℕ) → length m.vars ≤ v → v < length n.vars → (row : List Term) × (row ∈ rows) × (Variable v ∈ row)
 
 pub rows-facts : (m : Memo) (xs : List (List Word)) → m.width ≤ 8 → LinesOk entries.Row m xs → AllFacts m (puts_all m xs) (length xs) (pattern_of m xs)
@@ -158,7 +158,7 @@ rows-facts m (ws ∷ xs) narrow h =
       few = omega arith;
       vars = omega arith;
       width = b.width ∙ a.width;
-      long = (a.long ∙ fit, subst (λ W. All (λ row. length row ≡ W) (pattern_of k xs)) same b.long);
+      long = (a.long ∙ fit, subst (λ W. AllByRecursion (λ row. length row ≡ W) (pattern_of k xs)) same b.long);
       small = λ N l i j. (a.small N l (omega arith) (omega arith), b.small N l i j);
       new = λ v lo hi. ⊎_elim
           (λ lt. (row_terms m ws, Memᴰ.head refl, a.new v lo lt))

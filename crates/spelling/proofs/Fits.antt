@@ -2,7 +2,7 @@
 use Rattle.std.proofs.Common.{◌≡◌, ℕ, ◌+◌, ◌<◌, ◌≤◌, Bool, true, false, cond, not, ◌||◌, List, [], ◌∷◌, ◌++◌, map, length, sym, refl, ap, ◌∙◌, subst, arith}
 use mathlib.Core.List.Memᴰ
 use lib.ListN.{length-map}
-use Rattle.std.specs.List.{AllByRecursion as All}
+use Rattle.std.specs.List.{AllByRecursion}
 use Rattle.std.proofs.lemmas.Bool.{and_parts, ltb-true}
 use Rattle.text.specs.Words.{Word, is_variable}
 use Rattle.rules.specs.Rules.{◌∈◌, Pattern, Rule}
@@ -21,7 +21,7 @@ use Rattle.spelling.specs.Book.{term_in, row_terms, pattern_of, numbers_of, pair
 use Rattle.spelling.proofs.Facts.{all_mem, ext_names, ext_vars, ext_width, number_below, puts-facts, rows-facts, known-vars, line_vars}
 use Rattle.spelling.proofs.Laid.{many_rows, many_rules, variables-laid, pairs_laid}
 
-all_append : {X : Type 0} (P : X → Type 0) (xs ys : List X) → All P xs → All P ys → All P (xs ++ ys)
+all_append : {X : Type 0} (P : X → Type 0) (xs ys : List X) → AllByRecursion P xs → AllByRecursion P ys → AllByRecursion P (xs ++ ys)
 all_append P [] ys a b = b
 all_append P (x ∷ xs) ys a b = (a.0, all_append P xs ys a.1 b)
 
@@ -29,7 +29,7 @@ seen_of : (t s : Bool) → t ≡ true → (not t || s) ≡ true → s ≡ true
 seen_of true s e h = h
 seen_of false s e h = let z : ◌≡◌ {A = ℕ} 0 1 = cc in absurd (omega arith)
 
-line_numbers : (vars : List Word) (ws : List Word) → all_known vars ws ≡ true → all_variables ws ≡ true → All (λ v. v < length vars) (map (number_of vars) ws)
+line_numbers : (vars : List Word) (ws : List Word) → all_known vars ws ≡ true → all_variables ws ≡ true → AllByRecursion (λ v. v < length vars) (map (number_of vars) ws)
 line_numbers vars [] h k = tt
 line_numbers vars (w ∷ ws) h k =
     let p = and_parts (not (is_variable w.bytes) || seen_in vars w) (all_known vars ws) h in
@@ -38,7 +38,7 @@ line_numbers vars (w ∷ ws) h k =
 
 -- a list of variables: all in the rows, and no new one
 record Listed (m n : Memo) (vs : List ℕ) : Type 0 where
-  known : All (λ v. v < length m.vars) vs
+  known : AllByRecursion (λ v. v < length m.vars) vs
   vars : n.vars ≡ m.vars
   names : length m.names ≤ length n.names
   width : n.width ≡ m.width
@@ -52,7 +52,7 @@ listed m (ws ∷ xs) h =
     let b = listed k xs h.2 in
     let a = line_numbers m.vars ws h.1 (and_parts (fits 1 ws) (all_variables ws) h.0).1 in
     record {
-      known = all_append (λ v. v < length m.vars) (map (number_of m.vars) ws) (numbers_of k xs) a (subst (λ vs. All (λ v. v < length vs) (numbers_of k xs)) e b.known);
+      known = all_append (λ v. v < length m.vars) (map (number_of m.vars) ws) (numbers_of k xs) a (subst (λ vs. AllByRecursion (λ v. v < length vs) (numbers_of k xs)) e b.known);
       vars = b.vars ∙ e;
       names = (let x = f.names in let y = b.names in omega arith);
       width = b.width ∙ f.width;
@@ -77,15 +77,15 @@ term_okay m w N h small le = by (is_variable w.bytes) refl h
         let b = number_below m.names w in
         omega arith
 
-terms_okay : (m : Memo) (ws : List Word) (N : ℕ) → all_known m.vars ws ≡ true → N < base → length (puts m ws).names ≤ N → All (Okay (length m.vars)) (row_terms m ws)
+terms_okay : (m : Memo) (ws : List Word) (N : ℕ) → all_known m.vars ws ≡ true → N < base → length (puts m ws).names ≤ N → AllByRecursion (Okay (length m.vars)) (row_terms m ws)
 terms_okay m [] N h small le = tt
 terms_okay m (w ∷ ws) N h small le =
     let p = and_parts (not (is_variable w.bytes) || seen_in m.vars w) (all_known m.vars ws) h in
     let e = known-vars m w p.0 in
     let f = puts-facts (put m w) ws in
-    (term_okay m w N p.0 small (let x = f.names in omega arith), subst (λ vs. All (Okay (length vs)) (row_terms (put m w) ws)) e (terms_okay (put m w) ws N (subst (λ vs. all_known vs ws ≡ true) (sym e) p.1) small le))
+    (term_okay m w N p.0 small (let x = f.names in omega arith), subst (λ vs. AllByRecursion (Okay (length vs)) (row_terms (put m w) ws)) e (terms_okay (put m w) ws N (subst (λ vs. all_known vs ws ≡ true) (sym e) p.1) small le))
 
-pair_okay : (L : ℕ) (ts : List Term) → All (Okay L) ts → Okay L (pair_of ts).0 × Okay L (pair_of ts).1
+pair_okay : (L : ℕ) (ts : List Term) → AllByRecursion (Okay L) ts → Okay L (pair_of ts).0 × Okay L (pair_of ts).1
 pair_okay L [] h = (omega arith, omega arith)
 pair_okay L (a ∷ []) h = (h.0, h.0)
 pair_okay L (a ∷ b ∷ ts) h = (h.0, h.1.0)
@@ -95,7 +95,7 @@ Both L p = Okay L p.0 × Okay L p.1
 
 -- pairs of terms: all in range or in the rows
 record Paired (m n : Memo) (ps : List (Term × Term)) : Type 0 where
-  known : (N : ℕ) → N < base → length n.names ≤ N → All (Both (length m.vars)) ps
+  known : (N : ℕ) → N < base → length n.names ≤ N → AllByRecursion (Both (length m.vars)) ps
   names : length m.names ≤ length n.names
   width : n.width ≡ m.width
 
@@ -109,7 +109,7 @@ paired m (ws ∷ xs) h =
     let x = f.names in
     let y = b.names in
     record {
-      known = λ N s l. (pair_okay (length m.vars) (row_terms m ws) (terms_okay m ws N h.1 s (omega arith)), subst (λ vs. All (Both (length vs)) (pairs_in k xs)) e (b.known N s l));
+      known = λ N s l. (pair_okay (length m.vars) (row_terms m ws) (terms_okay m ws N h.1 s (omega arith)), subst (λ vs. AllByRecursion (Both (length vs)) (pairs_in k xs)) e (b.known N s l));
       names = omega arith;
       width = b.width ∙ f.width;
     }
@@ -121,14 +121,14 @@ known-term L p h (Variable v) k = h v k
 
 -- what a rule's lists come to, where the rows have L variables
 record Fine (k : Kind) (L : ℕ) (r : Rule) : Type 0 where
-  left : All (λ v. v < L) r.left
+  left : AllByRecursion (λ v. v < L) r.left
   few_left : length r.left ≤ 32
   left_fits : LeftOf k r.left
-  pairs : All (Both L) r.pairs
+  pairs : AllByRecursion (Both L) r.pairs
   few_pairs : length r.pairs ≤ 32
   pairs_fit : (p : Term × Term) → p ∈ r.pairs → PairOf k p
 
-twice_both : (L : ℕ) (vs : List ℕ) → All (λ v. v < L) vs → All (Both L) (map twice vs)
+twice_both : (L : ℕ) (vs : List ℕ) → AllByRecursion (λ v. v < L) vs → AllByRecursion (Both L) (map twice vs)
 twice_both L [] h = tt
 twice_both L (v ∷ vs) h = ((h.0, h.0), twice_both L vs h.1)
 
@@ -163,10 +163,10 @@ lists_fine Functional m r pattern (lok, rok) =
       names = omega arith;
       width = b.width ∙ w5 ∙ a.width ∙ w3;
       fine = λ N s l. record {
-        left = subst (λ vs. All (λ v. v < length vs) (numbers_of m3 r.left)) v3 a.known;
+        left = subst (λ vs. AllByRecursion (λ v. v < length vs) (numbers_of m3 r.left)) v3 a.known;
         few_left = omega arith;
         left_fits = tt;
-        pairs = twice_both (length m.vars) vs (subst (λ us. All (λ v. v < length us) vs) v5 b.known);
+        pairs = twice_both (length m.vars) vs (subst (λ us. AllByRecursion (λ v. v < length us) vs) v5 b.known);
         few_pairs = omega arith;
         pairs_fit = λ p q. let o = Memᴰ.of_map twice vs q in (o.0, sym o.2);
       };
@@ -189,7 +189,7 @@ lists_fine Equality m r pattern ok =
         left = tt;
         few_left = omega arith;
         left_fits = refl;
-        pairs = subst (λ us. All (Both (length us)) (pairs_in m5 r.pairs)) v5 (b.known N s l);
+        pairs = subst (λ us. AllByRecursion (Both (length us)) (pairs_in m5 r.pairs)) v5 (b.known N s l);
         few_pairs = omega arith;
         pairs_fit = λ p q. tt;
       };
@@ -229,8 +229,8 @@ rule-fine m r narrow ok =
           record {
             some_row = omega arith;
             few_rows = omega arith;
-            of_width = all_mem (λ row. length row ≡ m.width) pattern (subst (λ W. All (λ row. length row ≡ W) pattern) w1 a.long);
-            small = λ row q x k. all_mem Small row (all_mem (All Small) pattern t row q) x k;
+            of_width = all_mem (λ row. length row ≡ m.width) pattern (subst (λ W. AllByRecursion (λ row. length row ≡ W) pattern) w1 a.long);
+            small = λ row q x k. all_mem Small row (all_mem (AllByRecursion Small) pattern t row q) x k;
             few_left = f.few_left;
             left_fits = f.left_fits;
             left_stands = λ v q. stands v (all_mem (λ u. u < length m2.vars) (left_of r.kind m2 r) f.left v q);
@@ -243,7 +243,7 @@ rule-fine m r narrow ok =
 record RulesFine (m n : Memo) (rs : List Rule) : Type 0 where
   names : length m.names ≤ length n.names
   width : n.width ≡ m.width
-  fits : (N : ℕ) → N < base → length n.names ≤ N → All (WellFormed m.width) rs
+  fits : (N : ℕ) → N < base → length n.names ≤ N → AllByRecursion (WellFormed m.width) rs
 
 rules_fine : (m : Memo) (rs : List RuleDraft) → m.width ≤ 8 → RulesOk m rs → RulesFine m (put_rules m rs) (rules_of m rs)
 rules_fine m [] narrow ok = record { names = omega arith; width = refl; fits = λ N s l. tt }
@@ -257,10 +257,10 @@ rules_fine m (r ∷ rs) narrow (ok, oks) =
     record {
       names = omega arith;
       width = b.width ∙ aw;
-      fits = λ N s l. (a.fits N s (omega arith), subst (λ W. All (WellFormed W) (rules_of k rs)) aw (b.fits N s l));
+      fits = λ N s l. (a.fits N s (omega arith), subst (λ W. AllByRecursion (WellFormed W) (rules_of k rs)) aw (b.fits N s l));
     }
 
-fitting_from : (W : ℕ) (rs : List Rule) → 1 ≤ W → W ≤ 8 → length rs ≤ 256 → All (WellFormed W) rs → Fitting (record { width = W; rules = rs })
+fitting_from : (W : ℕ) (rs : List Rule) → 1 ≤ W → W ≤ 8 → length rs ≤ 256 → AllByRecursion (WellFormed W) rs → Fitting (record { width = W; rules = rs })
 fitting_from W rs lo hi few h = record { well = record { some_width = lo; small_width = hi; few = omega arith; rules_fit = all_mem (WellFormed W) rs h }; few = few }
 
 pub fitting : (d : Draft) → DraftOk d → length (put_down d).names < base → Fitting (book_of d) × Fitting (targets_of d)
@@ -279,5 +279,5 @@ fitting d ok small =
     let fr = ok.few_rules in
     let ft = ok.few_targets in (
       fitting_from d.width (rules_of mr d.rules) ok.some_width ok.small_width (omega arith) (a.fits N small (omega arith)),
-      fitting_from d.width (rules_of mt d.targets) ok.some_width ok.small_width (omega arith) (subst (λ W. All (WellFormed W) (rules_of mt d.targets)) wt (b.fits N small (omega arith))),
+      fitting_from d.width (rules_of mt d.targets) ok.some_width ok.small_width (omega arith) (subst (λ W. AllByRecursion (WellFormed W) (rules_of mt d.targets)) wt (b.fits N small (omega arith))),
     )

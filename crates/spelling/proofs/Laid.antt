@@ -13,7 +13,7 @@ use Rattle.reader.specs.declared.desk.Counting.TheVariants as counting
 use Rattle.reader.specs.declared.desk.Entry.TheVariants as entries
 use Rattle.reader.specs.declared.desk.Part.{Part}
 use Rattle.reader.specs.declared.desk.Part.TheVariants as parts
-use Rattle.reader.specs.Format.{Memo, nothing, number_of, fits, all_terms, all_variables, shaped, with_names, with_vars, in_targets}
+use Rattle.reader.specs.Format.{Memo, number_of, fits, all_terms, all_variables, shaped, with_names, with_vars, in_targets}
 use Rattle.spelling.specs.Draft.{RuleDraft, Draft, add, extend_in, extend, put, puts, puts_all, put_number, put_list, put_lists, after_rows, put_rule, put_rules, after_width, rules_memo, targets_memo, put_down, LinesOk, ListsOk, RuleOk, RulesOk, DraftOk}
 use Rattle.spelling.specs.Book.{term_in, row_terms, pattern_of, numbers_of, pair_of, pairs_in, twice, left_of, pairs_of, rule_of, rules_of, book_of, targets_of}
 

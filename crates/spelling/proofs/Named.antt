@@ -1,10 +1,10 @@
 -- Every constant that a draft puts down has a name, and every name is short.
-use Rattle.std.proofs.Common.{◌≡◌, ℕ, suc, ◌+◌, ◌<◌, ◌≤◌, Bool, true, false, cond, not, ◌&&◌, ◌||◌, eqb, leb, List, [], ◌∷◌, ◌++◌, map, length, sym, refl, ap, ◌∙◌, subst, ⊎_elim, arith}
-use Rattle.std.specs.List.{AllByRecursion as All}
-use Rattle.std.proofs.lemmas.Bool.{cases_Bool, cond-true, cond-false, and_parts, eqb-true, leb-true}
+use Rattle.std.proofs.Common.{◌≡◌, ℕ, ◌+◌, ◌<◌, ◌≤◌, Bool, true, false, cond, not, eqb, leb, List, [], ◌∷◌, ◌++◌, map, length, sym, refl, ap, ◌∙◌, subst, arith}
+use Rattle.std.specs.List.{AllByRecursion}
+use Rattle.std.proofs.lemmas.Bool.{and_parts, eqb-true, leb-true}
 use Rattle.text.specs.Words.{Word, is_variable, is_term, is_dollar}
 use Rattle.rules.specs.Rules.{Rule}
-use Rattle.rules.specs.Books.{BookMeaning, base}
+use Rattle.rules.specs.Books.{base}
 use Rattle.rules.specs.declared.term.Kind.{Kind}
 use Rattle.rules.specs.declared.term.Kind.TheVariants.{Functional, Equality}
 use Rattle.rules.specs.declared.term.Term.{Term}
@@ -13,10 +13,9 @@ use Rattle.sheets.specs.Layout.{kind_word}
 use Rattle.reader.specs.declared.desk.Counting.TheVariants as counting
 use Rattle.reader.specs.declared.desk.Entry.{Entry}
 use Rattle.reader.specs.declared.desk.Entry.TheVariants as entries
-use Rattle.reader.specs.declared.desk.Part.{Part}
-use Rattle.reader.specs.Format.{Memo, number_of, seen_in, fits, all_terms, all_variables, shaped, with_names, with_vars, with_width, in_targets}
-use Rattle.spelling.specs.Draft.{RuleDraft, Draft, add, extend_in, extend, put, puts, puts_all, put_number, put_list, put_lists, after_rows, put_rule, put_rules, after_width, rules_memo, targets_memo, put_down, LinesOk, ListsOk, RuleOk, RulesOk, DraftOk}
-use Rattle.spelling.specs.Book.{term_in, row_terms, pattern_of, numbers_of, pair_of, pairs_in, twice, left_of, pairs_of, rule_of, rules_of, book_of, targets_of}
+use Rattle.reader.specs.Format.{Memo, number_of, seen_in, fits, all_terms, all_variables, shaped, with_names, with_vars, in_targets}
+use Rattle.spelling.specs.Draft.{RuleDraft, Draft, add, extend, put, puts, puts_all, put_number, put_list, put_lists, after_rows, put_rule, put_rules, rules_memo, targets_memo, put_down, LinesOk, ListsOk, RuleOk, RulesOk, DraftOk}
+use Rattle.spelling.specs.Book.{term_in, row_terms, pattern_of, numbers_of, pair_of, pairs_in, twice, pairs_of, rule_of, rules_of, book_of, targets_of}
 use Rattle.spelling.proofs.Facts.{ext_names, number_below, add-more}
 
 -- a constant is one of the first N
@@ -28,7 +27,7 @@ abbrev pub PairBelow : ℕ → Term × Term → Type 0
 PairBelow N p = Below N p.0 × Below N p.1
 
 abbrev pub RuleBelow : ℕ → Rule → Type 0
-RuleBelow N r = All (All (Below N)) r.pattern × All (PairBelow N) r.pairs
+RuleBelow N r = AllByRecursion (AllByRecursion (Below N)) r.pattern × AllByRecursion (PairBelow N) r.pairs
 
 abbrev pub Short : Word → Type 0
 Short w = length w.bytes ≤ 24
@@ -36,7 +35,7 @@ Short w = length w.bytes ≤ 24
 -- from m on to n: names are only added, short ones, and P holds where there are N names and more
 record Grows (m n : Memo) (P : ℕ → Type 0) : Type 0 where
   names : length m.names ≤ length n.names
-  short : All Short m.names → All Short n.names
+  short : AllByRecursion Short m.names → AllByRecursion Short n.names
   holds : (N : ℕ) → length n.names ≤ N → P N
 
 then : {m n k : Memo} {P Q : ℕ → Type 0} → Grows m n P → Grows n k Q → Grows m k (λ N. P N × Q N)
@@ -47,19 +46,19 @@ then a b =
 
 -- the names are as they were
 kept : (m n : Memo) → n.names ≡ m.names → Grows m n (λ N. Unit {0})
-kept m n e = let l = ap length e in record { names = omega arith; short = λ s. subst (All Short) (sym e) s; holds = λ N h. tt }
+kept m n e = let l = ap length e in record { names = omega arith; short = λ s. subst (AllByRecursion Short) (sym e) s; holds = λ N h. tt }
 
 extended : (m k : Memo) (xs : List ℕ) → k.names ≡ m.names → Grows m (extend k xs) (λ N. Unit {0})
 extended m k xs e = kept m (extend k xs) (ext_names k xs k.part ∙ e)
 
-all_push : {X : Type 0} (P : X → Type 0) (xs : List X) (x : X) → All P xs → P x → All P (xs ++ x ∷ [])
+all_push : {X : Type 0} (P : X → Type 0) (xs : List X) (x : X) → AllByRecursion P xs → P x → AllByRecursion P (xs ++ x ∷ [])
 all_push P [] x h p = (p, tt)
 all_push P (y ∷ ys) x h p = (h.0, all_push P ys x h.1 p)
 
-add-short : (seen : List Word) (w : Word) → All Short seen → Short w → All Short (add seen w)
+add-short : (seen : List Word) (w : Word) → AllByRecursion Short seen → Short w → AllByRecursion Short (add seen w)
 add-short seen w h p = by (seen_in seen w)
   where
-    by : (t : Bool) → All Short (cond t seen (seen ++ w ∷ []))
+    by : (t : Bool) → AllByRecursion Short (cond t seen (seen ++ w ∷ []))
     by true = h
     by false = all_push Short seen w h p
 
@@ -73,19 +72,19 @@ put-grows m w p =
       | true ↦
           let e = ext_names mv xs m.part in
           let l = ap length e in
-          record { names = omega arith; short = λ s. subst (All Short) (sym e) s; holds = λ N h. tt }
+          record { names = omega arith; short = λ s. subst (AllByRecursion Short) (sym e) s; holds = λ N h. tt }
       | false ↦
           let e = ext_names mn ys m.part in
           let l = ap length e in
           let more = add-more m.names w in
           let below = number_below m.names w in
-          record { names = omega arith; short = λ s. subst (All Short) (sym e) (add-short m.names w s p); holds = λ N h. omega arith }
+          record { names = omega arith; short = λ s. subst (AllByRecursion Short) (sym e) (add-short m.names w s p); holds = λ N h. omega arith }
     ]
 
 term_short : (w : Word) → is_term w.bytes ≡ true → Short w
 term_short w h = leb-true _ _ (and_parts (leb (length w.bytes) 24) (not (is_dollar w.bytes)) h).0
 
-puts-grows : (m : Memo) (ws : List Word) → all_terms ws ≡ true → Grows m (puts m ws) (λ N. All (Below N) (row_terms m ws))
+puts-grows : (m : Memo) (ws : List Word) → all_terms ws ≡ true → Grows m (puts m ws) (λ N. AllByRecursion (Below N) (row_terms m ws))
 puts-grows m [] h = record { names = omega arith; short = λ s. s; holds = λ N l. tt }
 puts-grows m (w ∷ ws) h =
     let p = and_parts (is_term w.bytes) (all_terms ws) h in
@@ -97,25 +96,25 @@ terms_of W ws entries.Row h = (and_parts (eqb (length ws) W) (all_terms ws) h).1
 terms_of W ws entries.Variable h = (and_parts (eqb (length ws) 1) (all_terms ws) (and_parts (fits 1 ws) (all_variables ws) h).0).1
 terms_of W ws entries.Pair h = (and_parts (eqb (length ws) 2) (all_terms ws) h).1
 
-all_grows : (e : Entry) (m : Memo) (xs : List (List Word)) → LinesOk e m xs → Grows m (puts_all m xs) (λ N. All (All (Below N)) (pattern_of m xs))
+all_grows : (e : Entry) (m : Memo) (xs : List (List Word)) → LinesOk e m xs → Grows m (puts_all m xs) (λ N. AllByRecursion (AllByRecursion (Below N)) (pattern_of m xs))
 all_grows e m [] h = record { names = omega arith; short = λ s. s; holds = λ N l. tt }
 all_grows e m (ws ∷ xs) h = then (puts-grows m ws (terms_of m.width ws e h.0)) (all_grows e (puts m ws) xs h.2)
 
 -- the pairs of lines with two terms
-pair_below : (W : ℕ) (m : Memo) (ws : List Word) → shaped W ws entries.Pair ≡ true → (N : ℕ) → All (Below N) (row_terms m ws) → PairBelow N (pair_of (row_terms m ws))
+pair_below : (W : ℕ) (m : Memo) (ws : List Word) → shaped W ws entries.Pair ≡ true → (N : ℕ) → AllByRecursion (Below N) (row_terms m ws) → PairBelow N (pair_of (row_terms m ws))
 pair_below W m [] h N b = let z : ◌≡◌ {A = ℕ} 0 2 = eqb-true 0 2 (and_parts (eqb 0 2) true h).0 in absurd (omega arith)
 pair_below W m (w ∷ []) h N b = (b.0, b.0)
 pair_below W m (w ∷ v ∷ ws) h N b = (b.0, b.1.0)
 
-pairs_below : (m : Memo) (xs : List (List Word)) → LinesOk entries.Pair m xs → (N : ℕ) → All (All (Below N)) (pattern_of m xs) → All (PairBelow N) (pairs_in m xs)
+pairs_below : (m : Memo) (xs : List (List Word)) → LinesOk entries.Pair m xs → (N : ℕ) → AllByRecursion (AllByRecursion (Below N)) (pattern_of m xs) → AllByRecursion (PairBelow N) (pairs_in m xs)
 pairs_below m [] h N b = tt
 pairs_below m (ws ∷ xs) h N b = (pair_below m.width m ws h.0 N b.0, pairs_below (puts m ws) xs h.2 N b.1)
 
-twice-below : (N : ℕ) (vs : List ℕ) → All (PairBelow N) (map twice vs)
+twice-below : (N : ℕ) (vs : List ℕ) → AllByRecursion (PairBelow N) (map twice vs)
 twice-below N [] = tt
 twice-below N (v ∷ vs) = ((tt, tt), twice-below N vs)
 
-lists_grow : (k : Kind) (m : Memo) (r : RuleDraft) → ListsOk k m r → Grows m (put_lists k m r) (λ N. All (PairBelow N) (pairs_of k m r))
+lists_grow : (k : Kind) (m : Memo) (r : RuleDraft) → ListsOk k m r → Grows m (put_lists k m r) (λ N. AllByRecursion (PairBelow N) (pairs_of k m r))
 lists_grow Functional m r (lok, rok) =
     let m1 = put_number m (length r.left) counting.Left in
     let m2 = put_list counting.Left m r.left in
@@ -140,15 +139,15 @@ rule-grows m r ok =
     let c = then b (lists_grow r.kind (after_rows m r) r ok.lists) in
     record { names = c.names; short = c.short; holds = λ N l. ((c.holds N l).0.1, (c.holds N l).1) }
 
-rules_grow : (m : Memo) (rs : List RuleDraft) → RulesOk m rs → Grows m (put_rules m rs) (λ N. All (RuleBelow N) (rules_of m rs))
+rules_grow : (m : Memo) (rs : List RuleDraft) → RulesOk m rs → Grows m (put_rules m rs) (λ N. AllByRecursion (RuleBelow N) (rules_of m rs))
 rules_grow m [] ok = record { names = omega arith; short = λ s. s; holds = λ N l. tt }
 rules_grow m (r ∷ rs) (ok, oks) = then (rule-grows m r ok) (rules_grow (put_rule m r) rs oks)
 
 -- what is put down names each constant, by a short name
 pub record Named (d : Draft) : Type 0 where
-  pub book : All (RuleBelow (length (put_down d).names)) (book_of d).rules
-  pub targets : All (RuleBelow (length (put_down d).names)) (targets_of d).rules
-  pub short : All Short (put_down d).names
+  pub book : AllByRecursion (RuleBelow (length (put_down d).names)) (book_of d).rules
+  pub targets : AllByRecursion (RuleBelow (length (put_down d).names)) (targets_of d).rules
+  pub short : AllByRecursion Short (put_down d).names
 
 pub named : (d : Draft) → DraftOk d → Named d
 named d ok =

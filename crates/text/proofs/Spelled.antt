@@ -1,6 +1,6 @@
 -- The words and the lines are those that are spelled.
 use Rattle.std.proofs.Common.{◌≡◌, ℕ, zero, suc, ◌+◌, ◌-◌, ◌<◌, not, eqb, List, [], ◌∷◌, ◌++◌, length, replicate, sym, refl, ap, ◌∙◌, subst, inl, inr, ⊎_elim, append_assoc, append-nil, arith, length-append}
-use Rattle.std.specs.List.{AllByRecursion as All}
+use Rattle.std.specs.List.{AllByRecursion}
 use Rattle.std.proofs.ByRecursion.{All-push}
 use Rattle.std.proofs.lemmas.Bool.{cond-true, cond-false, cases_Bool, ne_eqb, eq-eqb, eqb-true, eqb-false}
 use Rattle.text.specs.Lines.{Line, in_line, begun, lines_at}
@@ -13,7 +13,7 @@ on p b cur bs h = cond-true (in_word b) _ _ (ap not (ne_eqb b 32 h))
 off : (p b : ℕ) (cur bs : List ℕ) → b ≡ 32 → words_from p cur (b ∷ bs) ≡ closed p cur (words_from (suc p) [] bs)
 off p b cur bs h = cond-false (in_word b) (words_from (suc p) (cur ++ b ∷ []) bs) (closed p cur (words_from (suc p) [] bs)) (ap not (eq-eqb b 32 h))
 
-blank : (p : ℕ) (bs : List ℕ) → All (λ b. b ≡ 32) bs → words_from p [] bs ≡ []
+blank : (p : ℕ) (bs : List ℕ) → AllByRecursion (λ b. b ≡ 32) bs → words_from p [] bs ≡ []
 blank p [] h = refl
 blank p (b ∷ bs) h = off p b [] bs h.0 ∙ blank (suc p) bs h.1
 
@@ -21,7 +21,7 @@ lead : (p k : ℕ) (bs : List ℕ) → words_from p [] (replicate k 32 ++ bs) �
 lead p zero bs = ap (λ q. words_from q [] bs) (omega arith)
 lead p (suc k) bs = off p 32 [] (replicate k 32 ++ bs) refl ∙ lead (suc p) k bs ∙ ap (λ q. words_from q [] bs) (omega arith)
 
-through : (p : ℕ) (cur w bs : List ℕ) → All (λ b. b ≡ 32 → ⊥) w → words_from p cur (w ++ bs) ≡ words_from (p + length w) (cur ++ w) bs
+through : (p : ℕ) (cur w bs : List ℕ) → AllByRecursion (λ b. b ≡ 32 → ⊥) w → words_from p cur (w ++ bs) ≡ words_from (p + length w) (cur ++ w) bs
 through p cur [] bs h = let e : p ≡ p + 0 = omega arith in let f = sym (append-nil cur) in (λ i. words_from (e i) (f i) bs)
 through p cur (b ∷ w) bs h =
     let e : suc p + length w ≡ p + length (b ∷ w) = omega arith in
@@ -47,7 +47,7 @@ more_space p (w ∷ ws) b bs e (k, rest, f, pl, is, a, s) =
     let at : suc p + k + length w.bytes ≡ p + suc k + length w.bytes = omega arith in
     (suc k, rest, (λ i. e i ∷ f i), omega arith, is, a, subst (λ q. Spaced q ws rest) at s)
 
-spells : (q p : ℕ) (cur bs : List ℕ) → q + length cur ≡ p → All (λ b. b ≡ 32 → ⊥) cur → Spaced q (words_from p cur bs) (cur ++ bs)
+spells : (q p : ℕ) (cur bs : List ℕ) → q + length cur ≡ p → AllByRecursion (λ b. b ≡ 32 → ⊥) cur → Spaced q (words_from p cur bs) (cur ++ bs)
 spells q p [] [] l h = tt
 spells q p (c ∷ cs) [] l h = (0, [], refl, omega arith, (omega arith, h), tt, tt)
 spells q p cur (b ∷ bs) l h =
@@ -61,7 +61,7 @@ spells q p cur (b ∷ bs) l h =
     (subst (Spaced q (words_from (suc p) (cur ++ b ∷ []) bs)) (append_assoc cur (b ∷ []) bs) (spells q (suc p) (cur ++ b ∷ []) bs (omega arith) (All-push (λ x. x ≡ 32 → ⊥) cur b h ne))))
     (cases_Bool (eqb b 32))
   where
-    end : (cur : List ℕ) → q + length cur ≡ p → All (λ b. b ≡ 32 → ⊥) cur → b ≡ 32 → Spaced p (words_from (suc p) [] bs) (b ∷ bs) → Spaced q (closed p cur (words_from (suc p) [] bs)) (cur ++ b ∷ bs)
+    end : (cur : List ℕ) → q + length cur ≡ p → AllByRecursion (λ b. b ≡ 32 → ⊥) cur → b ≡ 32 → Spaced p (words_from (suc p) [] bs) (b ∷ bs) → Spaced q (closed p cur (words_from (suc p) [] bs)) (cur ++ b ∷ bs)
     end [] l h is r = let at : p ≡ q = omega arith in subst (λ z. Spaced z (words_from (suc p) [] bs) (b ∷ bs)) at r
     end (c ∷ cs) l h is r =
         let at : p ≡ q + 0 + length (c ∷ cs) = omega arith in
@@ -77,18 +77,18 @@ at-line : (p b : ℕ) (bs : List ℕ) → b ≡ 10 → lines_at p (b ∷ bs) ≡
 at-line p b bs h = cond-false (in_line b) (begun p b (lines_at (suc p) bs)) (record { place = p; bytes = [] } ∷ lines_at (suc p) bs) (ap not (eq-eqb b 10 h))
 
 -- a line that ends with 10
-whole : (p : ℕ) (l rest : List ℕ) → All (λ b. b ≡ 10 → ⊥) l → lines_at p (l ++ 10 ∷ rest) ≡ record { place = p; bytes = l } ∷ lines_at (p + length l + 1) rest
+whole : (p : ℕ) (l rest : List ℕ) → AllByRecursion (λ b. b ≡ 10 → ⊥) l → lines_at p (l ++ 10 ∷ rest) ≡ record { place = p; bytes = l } ∷ lines_at (p + length l + 1) rest
 whole p [] rest h = let at : suc p ≡ p + 0 + 1 = omega arith in at-line p 10 rest refl ∙ ap (λ q. record { place = p; bytes = [] } ∷ lines_at q rest) at
 whole p (b ∷ l) rest h =
     let at : suc p + length l + 1 ≡ p + length (b ∷ l) + 1 = omega arith in
     lines_at-in_line p b (l ++ 10 ∷ rest) h.0 ∙ ap (begun p b) (whole (suc p) l rest h.1) ∙ ap (λ q. record { place = p; bytes = b ∷ l } ∷ lines_at q rest) at
 
 -- a last line that does not
-tail : (p b : ℕ) (l : List ℕ) → All (λ x. x ≡ 10 → ⊥) (b ∷ l) → lines_at p (b ∷ l) ≡ record { place = p; bytes = b ∷ l } ∷ []
+tail : (p b : ℕ) (l : List ℕ) → AllByRecursion (λ x. x ≡ 10 → ⊥) (b ∷ l) → lines_at p (b ∷ l) ≡ record { place = p; bytes = b ∷ l } ∷ []
 tail p b [] h = lines_at-in_line p b [] h.0
 tail p b (c ∷ l) h = lines_at-in_line p b (c ∷ l) h.0 ∙ ap (begun p b) (tail (suc p) c l h.1)
 
-last : (p : ℕ) (l : List ℕ) → All (λ x. x ≡ 10 → ⊥) l → 0 < length l → lines_at p l ≡ record { place = p; bytes = l } ∷ []
+last : (p : ℕ) (l : List ℕ) → AllByRecursion (λ x. x ≡ 10 → ⊥) l → 0 < length l → lines_at p l ≡ record { place = p; bytes = l } ∷ []
 last p [] h pos = absurd (omega arith)
 last p (b ∷ l) h pos = tail p b l h
 

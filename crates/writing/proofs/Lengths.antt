@@ -1,6 +1,6 @@
 -- How long the lines of a report are.
 use Rattle.std.proofs.Common.{ℕ, ◌+◌, ◌-◌, ◌*◌, ◌^◌, ◌<◌, ◌≤◌, ltb, List, [], ◌∷◌, ◌++◌, map, length, get_or, drop, decimal, sym, subst, ⊎_elim, arith}
-use Rattle.std.specs.List.{AllByRecursion as All}
+use Rattle.std.specs.List.{AllByRecursion}
 use Rattle.std.proofs.lemmas.List.{length-append, length-take, get_or_past}
 use Rattle.std.proofs.ByRecursion.{All-get_or}
 use Rattle.std.proofs.lemmas.Bool.{cases_lt, cond-true, cond-false, lt-ltb, le-ltb}
@@ -21,7 +21,7 @@ use Rattle.writing.specs.Enough.{SmallRow, Small, Modest, enough, Enough}
 name_short : (text : List ℕ) (n : Name) → n.length ≤ 24 → length (part text n) ≤ 24
 name_short text n h = omega (arith, length-take n.length (drop n.place text))
 
-entry-short : (text : List ℕ) (names : List Name) (e : ℕ) → All (λ n. n.length ≤ 24) names → e < 2 ^ 32 → length (spell text (Reports.entry_piece names e)) ≤ 24
+entry-short : (text : List ℕ) (names : List Name) (e : ℕ) → AllByRecursion (λ n. n.length ≤ 24) names → e < 2 ^ 32 → length (spell text (Reports.entry_piece names e)) ≤ 24
 entry-short text names e short small = ⊎_elim
     (λ low. subst (λ p. length (spell text p) ≤ 24) (sym (cond-true (ltb e 16777216) _ _ (lt-ltb _ _ low)))
     (name_short text (get_or names e Reports.no_name) (⊎_elim
@@ -32,14 +32,14 @@ entry-short text names e short small = ⊎_elim
     (omega (arith, length-decimal-le 10 (e - 16777216) (omega arith) (omega arith) (omega arith))))
     (cases_lt e 16777216)
 
-after-short : (text : List ℕ) (names : List Name) (row : List ℕ) → All (λ n. n.length ≤ 24) names → All (λ e. e < 2 ^ 32) row → length (after text (Reports.row_line names row)) ≤ 1 + 25 * length row
+after-short : (text : List ℕ) (names : List Name) (row : List ℕ) → AllByRecursion (λ n. n.length ≤ 24) names → AllByRecursion (λ e. e < 2 ^ 32) row → length (after text (Reports.row_line names row)) ≤ 1 + 25 * length row
 after-short text names [] short small = omega arith
 after-short text names (e ∷ row) short small =
     let this = entry-short text names e short small.0 in
     let rest = after-short text names row short small.1 in
     omega (arith, length-append (spell text (Reports.entry_piece names e)) (after text (Reports.row_line names row)))
 
-row_short : (text : List ℕ) (names : List Name) (row : List ℕ) → All (λ n. n.length ≤ 24) names → SmallRow row → length (line_of text (Reports.row_line names row)) ≤ 200
+row_short : (text : List ℕ) (names : List Name) (row : List ℕ) → AllByRecursion (λ n. n.length ≤ 24) names → SmallRow row → length (line_of text (Reports.row_line names row)) ≤ 200
 row_short text names [] short small = omega arith
 row_short text names (e ∷ row) short small =
     let this = entry-short text names e short small.words.0 in
@@ -47,7 +47,7 @@ row_short text names (e ∷ row) short small =
     let wide = small.wide in
     omega (arith, length-append (spell text (Reports.entry_piece names e)) (after text (Reports.row_line names row)))
 
-rows_short : (text : List ℕ) (names : List Name) (rows : List (List ℕ)) → All (λ n. n.length ≤ 24) names → All SmallRow rows → length (Reports.lines_text text (map (Reports.row_line names) rows)) ≤ 200 * length rows
+rows_short : (text : List ℕ) (names : List Name) (rows : List (List ℕ)) → AllByRecursion (λ n. n.length ≤ 24) names → AllByRecursion SmallRow rows → length (Reports.lines_text text (map (Reports.row_line names) rows)) ≤ 200 * length rows
 rows_short text names [] short small = omega arith
 rows_short text names (r ∷ rows) short small =
     let this = row_short text names r short small.0 in
@@ -67,7 +67,7 @@ follows_line_short text i h = omega (arith, length-append (decimal i) (32 ∷ (b
 fails_line_short : (text : List ℕ) (i : ℕ) → i ≤ 256 → length (line_of text (Reports.verdict_line i word.Fails)) ≤ 17
 fails_line_short text i h = omega (arith, length-append (decimal i) (32 ∷ (bytes_of word.Fails ++ 10 ∷ [])), length-decimal-le 3 i (omega arith) (omega arith) (omega arith))
 
-target_short : (text : List ℕ) (names : List Name) (i : ℕ) (o : Outcome) → All (λ n. n.length ≤ 24) names → i ≤ 256 → Small o → length (Reports.target_text text names i o) ≤ 1624
+target_short : (text : List ℕ) (names : List Name) (i : ℕ) (o : Outcome) → AllByRecursion (λ n. n.length ≤ 24) names → i ≤ 256 → Small o → length (Reports.target_text text names i o) ≤ 1624
 target_short text names i Follows short h small =
     omega (arith, follows_line_short text i h, length-append (line_of text (Reports.verdict_line i word.Follows)) [])
 target_short text names i (Fails rows) short h small =
@@ -81,7 +81,7 @@ target_short text names i (Fails rows) short h small =
       length-append (line_of text (Reports.count_line word.Rows (length rows))) (Reports.lines_text text (map (Reports.row_line names) rows)),
     )
 
-targets_short : (text : List ℕ) (names : List Name) (i : ℕ) (os : List Outcome) → All (λ n. n.length ≤ 24) names → i + length os ≤ 257 → All Small os → length (whole (Reports.target_texts text names i os)) ≤ 1624 * length os
+targets_short : (text : List ℕ) (names : List Name) (i : ℕ) (os : List Outcome) → AllByRecursion (λ n. n.length ≤ 24) names → i + length os ≤ 257 → AllByRecursion Small os → length (whole (Reports.target_texts text names i os)) ≤ 1624 * length os
 targets_short text names i [] short h small = omega arith
 targets_short text names i (o ∷ os) short h small =
     let this = target_short text names i o short (omega arith) small.0 in

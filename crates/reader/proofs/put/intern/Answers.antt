@@ -1,6 +1,6 @@
 use Rattle.std.proofs.Common.{length, sym, refl, subst, arith}
 use native.Mathlib.Nat.{min-le_right}
-use Rattle.std.specs.List.{AllByRecursion as All}
+use Rattle.std.specs.List.{AllByRecursion}
 use Rattle.std.proofs.ByRecursion.{All-push}
 use Rattle.text.specs.Filled.{items, room}
 use Rattle.reader.specs.Held.{Inside}
@@ -33,7 +33,7 @@ returns-in-Ok c =
       same = c.in-Ok.ensures.same;
       fine = record {
         within = omega arith;
-        inside = subst (All (Inside t)) (sym put.2) (All-push (Inside t) (items l) c.args.w c.requires.fine.inside c.requires.word);
+        inside = subst (AllByRecursion (Inside t)) (sym put.2) (All-push (Inside t) (items l) c.args.w c.requires.fine.inside c.requires.word);
       };
       cases = (is, omega arith, new t (room l) (items l) c.args.w (omega arith) (omega arith) _ put.2);
     }
@@ -48,6 +48,6 @@ returns-in-Err c =
     let size = room-same c.in-Err.ensures.same in
     record {
       same = c.in-Err.ensures.same;
-      fine = record { within = omega arith; inside = subst (All (Inside t)) (sym put.2) c.requires.fine.inside };
+      fine = record { within = omega arith; inside = subst (AllByRecursion (Inside t)) (sym put.2) c.requires.fine.inside };
       cases = full t (room l) (items l) c.args.w (omega arith) (omega arith);
     }
