@@ -1,18 +1,18 @@
 -- Every constant in the rows of an outcome has a name, and so every report is short enough for one output.
-use Rattle.std.proofs.Common.{◌≡◌, ℕ, zero, suc, ◌+◌, ◌-◌, ◌^◌, ◌<◌, ◌≤◌, true, ◌⊎◌, List, [], ◌∷◌, ◌++◌, map, length, replicate, sym, refl, ap, ◌∙◌, subst, inl, inr, ⊎_elim, arith}
+use Rattle.std.proofs.Common.{◌≡◌, ℕ, zero, suc, ◌+◌, ◌-◌, ◌^◌, ◌<◌, ◌≤◌, List, [], ◌∷◌, ◌++◌, map, length, replicate, refl, inl, inr, arith}
 use mathlib.Core.List.Memᴰ
 use Rattle.std.specs.List.{AllByRecursion}
 use Rattle.rules.specs.declared.term.Term.{Term}
 use Rattle.rules.specs.declared.term.Term.TheVariants.{Constant, Variable}
 use Rattle.rules.specs.Rules.{◌∈◌, Rule}
-use Rattle.rules.specs.Books.{BookMeaning, base, WellFormed, WellFormedBook}
+use Rattle.rules.specs.Books.{BookMeaning, WellFormedBook}
 use Rattle.text.specs.declared.words.Name.{Name}
 use Rattle.text.specs.Words.{Word}
 use Rattle.reader.specs.Reads.{name_of, no_name, padded}
 use Rattle.spelling.proofs.Facts.{all_mem}
 use Rattle.spelling.proofs.Named.{PairBelow, RuleBelow, Short}
 use Rattle.spelling.proofs.Named as spelled
-use Rattle.writing.specs.Outcomes.{Outcome, Follows, Fails, rows_of}
+use Rattle.writing.specs.Outcomes.{Outcome, Follows, Fails}
 use Rattle.writing.specs.Enough.{SmallRow, Small, Modest}
 use Rattle.outcomes.specs.Due.{DueAt}
 use Rattle.outcomes.specs.Laws.{Below, ConstantsBelow, Named}

@@ -1,10 +1,9 @@
 -- What is printed of a report.
-use Rattle.std.proofs.Common.{◌≡◌, ℕ, ◌+◌, ◌-◌, ◌^◌, ◌<◌, ◌≤◌, Bool, true, false, List, [], ◌∷◌, ◌++◌, length, take, replicate, Ok, Err, Result, sym, refl, ap, ◌∙◌, subst, append-nil, arith, lit≤}
+use Rattle.std.proofs.Common.{◌≡◌, ℕ, ◌-◌, ◌^◌, ◌<◌, ◌≤◌, Bool, true, false, List, [], ◌∷◌, ◌++◌, length, take, replicate, Ok, Err, Result, ap, ◌∙◌, append-nil, arith, lit≤}
 use lib.Seq.{take-append_seam}
 use Rattle.rules.specs.declared.refusal.Refusal.{Refusal}
 use Rattle.text.specs.declared.words.Name.{Name}
 use Rattle.reader.specs.declared.fault.ReadFault.{ReadFault}
-use Rattle.reader.specs.Faults.{read_refusal}
 use Rattle.reader.specs.Format.{Memo, read_text}
 use Rattle.reader.specs.Reads.{Lent, rooms_in}
 use Rattle.writing.specs.declared.room.TooShort.{TooShort}

@@ -1,5 +1,5 @@
 -- Outcomes one after another.
-use Rattle.std.proofs.Common.{◌≡◌, ℕ, zero, suc, ◌+◌, ◌<◌, ◌≤◌, List, [], ◌∷◌, ◌++◌, length, sym, refl, ap, ◌∙◌, subst, arith}
+use Rattle.std.proofs.Common.{◌≡◌, ℕ, zero, suc, ◌+◌, ◌<◌, List, [], ◌∷◌, ◌++◌, length, sym, refl, ap, subst, arith}
 use Rattle.text.specs.declared.words.Name.{Name}
 use Rattle.writing.specs.Outcomes.{Outcome}
 use Rattle.writing.specs.Reports.{target_text, target_texts, first_line, parts}

@@ -1,5 +1,5 @@
 -- A text has one report.
-use Rattle.std.proofs.Common.{◌≡◌, ℕ, suc, ◌+◌, ◌≤◌, true, List, [], ◌∷◌, ◌++◌, length, replicate, is_ok, Some, Ok, Err, Result, sym, refl, ap, ◌∙◌, subst, append-nil, arith}
+use Rattle.std.proofs.Common.{◌≡◌, ℕ, ◌+◌, ◌≤◌, List, [], ◌∷◌, ◌++◌, length, Some, Ok, Err, Result, sym, refl, ap, ◌∙◌, subst, arith}
 use Rattle.rules.specs.Rules.{Rule}
 use Rattle.rules.specs.Books.{BookMeaning, WellFormedBook}
 use Rattle.text.specs.declared.words.Name.{Name}
@@ -8,7 +8,7 @@ use Rattle.sheets.specs.Layout.{layout}
 use Rattle.sheets.specs.Reads.{sheet_meaning}
 use Rattle.reader.specs.declared.fault.ReadFault.{ReadFault}
 use Rattle.reader.specs.Format.{Memo, read_text}
-use Rattle.reader.specs.Reads.{Lent, rooms_in, Blank}
+use Rattle.reader.specs.Reads.{Lent, rooms_in}
 use Rattle.writing.specs.Outcomes.{Outcome}
 use Rattle.writing.specs.Reports.{parts}
 use Rattle.writing.specs.Fitting.{whole, Writes}
@@ -19,12 +19,12 @@ use Rattle.outcomes.specs.Due.{Due, DueAt}
 use Rattle.outcomes.proofs.All.{outcomes_due}
 use Rattle.report.specs.declared.fault.ReportFault.{ReportFault}
 use Rattle.report.specs.Faults.{short_fault}
-use Rattle.report.specs.Reported.{Sound, Reported, EachDue, names_in, HoldsRead}
-use Rattle.report.specs.Answered.{OutcomesOf, LentAfter, Answered, AnswerOf, PrintedReport, Printed, OneAnswer, OnePrinted}
+use Rattle.report.specs.Reported.{EachDue, names_in}
+use Rattle.report.specs.Answered.{OutcomesOf, LentAfter, Answered, AnswerOf, Printed, OneAnswer, OnePrinted}
 use Rattle.report.specs.Laws.{OneReport}
 use Rattle.report.proofs.Tried.{target_fits}
 use Rattle.report.proofs.Naming.{modest}
-use Rattle.report.proofs.Sounds.{ReadAs, answered_as}
+use Rattle.report.proofs.Sounds.{answered_as}
 use Rattle.std.specs.List.{AllByRecursion}
 use Rattle.spelling.proofs.Named.{Short}
 

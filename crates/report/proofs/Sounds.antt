@@ -1,7 +1,7 @@
 -- What is read is two sheets that pass the check, with books of one width: those that the text spells.
-use Rattle.std.proofs.Common.{◌≡◌, ℕ, ◌-◌, ◌<◌, ◌≤◌, List, ◌++◌, length, replicate, Ok, Err, Result, sym, refl, ap, ◌∙◌, subst, arith}
+use Rattle.std.proofs.Common.{◌≡◌, ℕ, ◌-◌, ◌≤◌, List, ◌++◌, length, replicate, Ok, Err, Result, sym, refl, ap, ◌∙◌, subst, arith}
 use Rattle.std.specs.List.{AllByRecursion}
-use Rattle.rules.specs.Books.{BookMeaning, base}
+use Rattle.rules.specs.Books.{BookMeaning}
 use Rattle.sheets.specs.Laws.{Fitting, Passing, WrittenPasses, PassingIsWritten}
 use Rattle.sheets.specs.Layout.{layout}
 use Rattle.sheets.specs.Reads.{sheet_meaning}
@@ -11,7 +11,7 @@ use Rattle.text.specs.Words.{Word}
 use Rattle.reader.specs.declared.fault.ReadFault.{ReadFault}
 use Rattle.reader.specs.Format.{Memo, read_text}
 use Rattle.reader.specs.Reads.{Lent, rooms_in, padded}
-use Rattle.spelling.specs.Draft.{Draft, Spells, put_down}
+use Rattle.spelling.specs.Draft.{put_down}
 use Rattle.spelling.specs.Book.{SpellsBook, book_of, targets_of}
 use Rattle.spelling.proofs.Theorems.{read-spells}
 use Rattle.spelling.proofs.Telling.{few_names}
@@ -19,7 +19,7 @@ use Rattle.spelling.proofs.Laid.{laid}
 use Rattle.spelling.proofs.Fits.{fitting}
 use Rattle.spelling.proofs.Named.{RuleBelow, Short, named}
 use Rattle.report.specs.declared.fault.ReportFault.{ReportFault}
-use Rattle.report.specs.Reported.{Sound, Reported, rules_in, targets_in, names_in, PlacesAfter, ReportOf, ToldOf, AsSpelled}
+use Rattle.report.specs.Reported.{Sound, rules_in, targets_in, names_in, PlacesAfter, ReportOf, ToldOf, AsSpelled}
 use Rattle.report.specs.Answered.{OutcomesOf, LentAfter, Answered, WholeReport, AnswerOf}
 use Rattle.report.proofs.Naming.{all_named}
 

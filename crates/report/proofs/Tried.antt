@@ -1,15 +1,15 @@
 -- What comes of trying a target.
-use Rattle.std.proofs.Common.{◌≡◌, ℕ, zero, suc, ◌+◌, ◌<◌, ◌≤◌, ◌⊎◌, List, [], ◌∷◌, length, get_or, IsErrAnd, Some, None, Ok, Err, Result, sym, refl, ap, ◌∙◌, subst, inl, inr, ⊎_elim, arith, MatchResult}
+use Rattle.std.proofs.Common.{◌≡◌, ℕ, zero, suc, ◌<◌, List, [], ◌∷◌, length, get_or, IsErrAnd, Some, Ok, Err, Result, refl, ap, subst, ⊎_elim, arith, MatchResult}
 use mathlib.Core.List.Memᴰ
 use Rattle.std.specs.List.{slice_get}
 use Rattle.std.proofs.lemmas.Option.{slice_get-get_or}
 use Rattle.std.proofs.lemmas.List.{get_or_past}
 use Rattle.std.proofs.lemmas.Bool.{cases_lt}
-use Rattle.rules.specs.Rules.{◌∈◌, Rule, Relation}
+use Rattle.rules.specs.Rules.{◌∈◌, Rule}
 use Rattle.rules.specs.Books.{BookMeaning, WellFormed, WellFormedBook}
 use Rattle.rules.specs.Doubled.{doubled_rows}
 use Rattle.law.specs.Groups.{State, Alone}
-use Rattle.law.specs.Calls.{View, Blank, Going, fresh, Answer, Done, Refused, Starts, no_rule, targets_width, begun, Finished, Finishes}
+use Rattle.law.specs.Calls.{View, Blank, Going, fresh, Done, Refused, Starts, no_rule, targets_width, begun, Finished, Finishes}
 use Rattle.writing.specs.Outcomes.{Outcome, Follows, Fails, Narrow}
 use Rattle.outcomes.specs.Due.{Due, DueAt}
 use Rattle.outcomes.specs.Laws.{outcome_of}

@@ -1,5 +1,5 @@
 -- The report once its output is closed.
-use Rattle.std.proofs.Common.{◌≡◌, ℕ, ◌+◌, ◌<◌, ◌≤◌, List, length, replicate, IsErrAnd, Ok, Err, Result, sym, refl, ap, ◌∙◌, subst, arith}
+use Rattle.std.proofs.Common.{◌≡◌, ℕ, List, length, replicate, IsErrAnd, Ok, Err, Result, sym, ap, subst, arith}
 use Rattle.sheets.specs.Reads.{sheet_meaning}
 use Rattle.text.specs.declared.words.Name.{Name}
 use Rattle.reader.specs.declared.fault.ReadFault.{ReadFault}
@@ -8,13 +8,12 @@ use Rattle.reader.specs.Reads.{Lent, no_name, Blank}
 use Rattle.pieces.specs.declared.output.Output.{Output}
 use Rattle.pieces.specs.Put.{size, Same}
 use Rattle.writing.specs.Reports.{parts}
-use Rattle.writing.specs.Fitting.{Writes}
 use Rattle.writing.specs.Filling.{closed_answer, closed_places}
 use Rattle.writing.proofs.Closed.{closes}
 use Rattle.report.specs.declared.fault.ReportFault.{ReportFault}
 use Rattle.report.specs.declared.fault.ReportFault.TheVariants.{Reading}
 use Rattle.report.specs.Faults.{short_fault}
-use Rattle.report.specs.Reported.{Sound, Reported, ReportFills, rules_in, targets_in, names_in, HoldsRead, ReadsAndFills, kept, PlacesAfter, ReportOf}
+use Rattle.report.specs.Reported.{Sound, Reported, ReportFills, rules_in, targets_in, names_in, HoldsRead, ReadsAndFills, kept, ReportOf}
 
 pub err_is : {E : Type 0} (e : E) (r : Result (Unit {0}) E) → IsErrAnd r (λ y. y ≡ e) → r ≡ Err e
 err_is e (Ok u) h = absurd h

@@ -1,8 +1,6 @@
 -- The law of reports.
 use Rattle.std.specs.Prelude.{◌≡◌, ℕ, List, Result}
 use Rattle.text.specs.declared.words.Name.{Name}
-use Rattle.reader.specs.Reads.{Lent}
-use Rattle.reader.specs.Format.{Memo}
 use Rattle.sheets.specs.Reads.{sheet_meaning}
 use Rattle.report.specs.declared.fault.ReportFault.{ReportFault}
 use Rattle.report.specs.Reported.{Sound, Reported}

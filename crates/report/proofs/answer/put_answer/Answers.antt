@@ -1,9 +1,8 @@
-use Rattle.std.proofs.Common.{◌≡◌, ℕ, ◌≤◌, length, Ok, Err, sym, refl, ap, ◌∙◌, subst, arith}
+use Rattle.std.proofs.Common.{◌≤◌, length, Ok, Err, sym, refl, ap, ◌∙◌, subst, arith}
 use Rattle.reader.specs.Format.{read_text}
 use Rattle.reader.specs.Reads.{Lent, rooms_in}
 use Rattle.writing.specs.Enough.{enough}
 use Rattle.writing.specs.Reports.{refusal_text}
-use Rattle.report.specs.Faults.{report_refusal}
 use Rattle.spelling.specs.Room.{most}
 use Rattle.report.specs.Answered.{AnswerOf, Printed}
 use Rattle.report.proofs.Printing.{printed_ok, printed_err, enough-is}

@@ -1,4 +1,4 @@
-use Rattle.std.proofs.Common.{◌^◌, ◌<◌, length, arith, rules}
+use Rattle.std.proofs.Common.{◌^◌, ◌<◌, length, rules}
 use Rattle.report.proofs.Printing.{line_fits, line_is}
 use Rattle.report.proofs.answer.put_refusal.Goals as goal
 

@@ -1,4 +1,4 @@
-use Rattle.std.proofs.Common.{◌≡◌, ℕ, List, sym, refl, ap, ◌∙◌, subst, arith}
+use Rattle.std.proofs.Common.{◌≡◌, ℕ, List, sym, ap, ◌∙◌, subst, arith}
 use Rattle.sheets.specs.Reads.{sheet_meaning}
 use Rattle.pieces.proofs.Steps.{same_refl}
 use Rattle.report.specs.Reported.{ReportFills}

@@ -1,4 +1,4 @@
-use Rattle.std.proofs.Common.{◌≡◌, Result, sym, refl, ap, ◌∙◌, subst}
+use Rattle.std.proofs.Common.{Result, sym, subst}
 use Rattle.reader.specs.declared.fault.ReadFault.{ReadFault}
 use Rattle.reader.specs.Format.{Memo}
 use Rattle.reader.specs.Reads.{lent}

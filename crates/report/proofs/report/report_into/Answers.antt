@@ -1,4 +1,4 @@
-use Rattle.std.proofs.Common.{◌≡◌, length, sym, refl, ap, ◌∙◌, subst, arith, rules}
+use Rattle.std.proofs.Common.{◌≡◌, length, refl, rules}
 use Rattle.reader.specs.Format.{read_text}
 use Rattle.reader.specs.Reads.{lent, rooms_in}
 use Rattle.pieces.proofs.Steps.{same_trans}

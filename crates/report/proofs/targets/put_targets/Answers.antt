@@ -1,17 +1,12 @@
-use Rattle.std.proofs.Common.{◌≡◌, ℕ, ◌+◌, ◌-◌, ◌<◌, ◌≤◌, List, [], ◌∷◌, ◌++◌, length, sym, refl, ap, ◌∙◌, subst, arith}
-use Rattle.std.proofs.lemmas.List.{append-nil, length-append}
-use Rattle.pieces.specs.declared.output.Output.{Output}
-use Rattle.pieces.specs.Put.{size, Same, Put}
+use Rattle.std.proofs.Common.{◌≡◌, ◌+◌, ◌-◌, ◌<◌, [], ◌∷◌, ◌++◌, length, sym, refl, ap, ◌∙◌, subst, arith}
+use Rattle.std.proofs.lemmas.List.{length-append}
+use Rattle.pieces.specs.Put.{size}
 use Rattle.pieces.proofs.Steps.{same_refl, same_trans, put-none, then-put, as_put}
-use Rattle.text.specs.declared.words.Name.{Name}
-use Rattle.writing.specs.Outcomes.{Outcome}
-use Rattle.writing.specs.Reports.{target_text, target_texts, first_line, parts}
+use Rattle.writing.specs.Reports.{target_text, target_texts, first_line}
 use Rattle.writing.specs.Fitting.{whole}
 use Rattle.writing.specs.Filling.{Past}
 use Rattle.trial.specs.Tells.{told}
 use Rattle.outcomes.specs.Laws.{outcome_of}
-use Rattle.report.specs.Reported.{EachDue}
-use Rattle.report.specs.Reported.{ReportFills}
 use Rattle.report.proofs.Tried.{due-ends}
 use Rattle.writing.proofs.Parted.{whole-push, past_at, put-within}
 use Rattle.report.proofs.Pushed.{length-texts, texts_append, due-append, all_due, parts-split}

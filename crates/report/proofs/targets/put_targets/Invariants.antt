@@ -1,5 +1,4 @@
-use Rattle.std.proofs.Common.{◌≡◌, ℕ, ◌≤◌, List, length}
-use Rattle.pieces.specs.declared.output.Output.{Output}
+use Rattle.std.proofs.Common.{◌≡◌, List, length}
 use Rattle.pieces.specs.Put.{Same, Put}
 use Rattle.writing.specs.Outcomes.{Outcome}
 use Rattle.writing.specs.Reports.{target_texts}
