@@ -13,7 +13,7 @@ pub record BookMeaning : Type 0 where
   pub width : ℕ
   pub rules : List Rule
 
--- What stands at a place. `nth` is none exactly past the end of a list.
+-- What stands at a place. `slice_get` is none exactly past the end of a list.
 abbrev pub within : {X Y : Type 0} → Option X → (X → Option Y) → Option Y
 within None f = None
 within (Some x) f = f x

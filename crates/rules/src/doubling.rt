@@ -1,5 +1,5 @@
 // The doubled form of a rule, as plain data.
-ghost use Rattle.std.specs.Prelude.{◌≡◌, ℕ, ◌+◌, ◌<◌, ◌≤◌, length, get_or, MatchOption, slice_index, slice_index_or};
+ghost use Rattle.std.specs.Prelude.{◌≡◌, ℕ, ◌+◌, ◌<◌, ◌≤◌, length, MatchOption, slice_index, slice_index_or};
 ghost use Rattle.rules.specs.Doubled.{copied, doubled, holds};
 ghost use Rattle.rules.specs.Loaded.{code_at, DoubledOf, meant, no_codes, no_pair, OfBook, one_at, other_at, Sized, term_of};
 
@@ -52,7 +52,7 @@ fn copied_row(rule: &LoadedRule, row: usize) -> CodeRow
 fn doubled_rows(rule: &LoadedRule) -> [CodeRow; 8]
     requires { Sized rule.now }
     ensures first { (i : ℕ) → i < rule.now.row_count → slice_index_or result i no_codes ≡ slice_index_or rule.now.rows i no_codes }
-    ensures second { (i : ℕ) → i < rule.now.row_count → (j : ℕ) → j < rule.now.width → term_of (slice_index (get_or result (rule.now.row_count + i) no_codes).codes j) ≡ copied (meant rule.now).left (term_of (code_at rule.now i j)) }
+    ensures second { (i : ℕ) → i < rule.now.row_count → (j : ℕ) → j < rule.now.width → term_of (slice_index (slice_index_or result (rule.now.row_count + i) no_codes).codes j) ≡ copied (meant rule.now).left (term_of (code_at rule.now i j)) }
 {
     let mut rows = [CodeRow { codes: [0; 8] }; 8];
     for row in 0..rule.row_count {
@@ -65,7 +65,7 @@ fn doubled_rows(rule: &LoadedRule) -> [CodeRow; 8]
 // The second side of each pair is read in the second copy.
 fn doubled_pairs(rule: &LoadedRule) -> [CodePair; 32]
     requires { Sized rule.now }
-    ensures { (k : ℕ) → k < rule.now.pair_count → ((get_or result k no_pair).one ≡ one_at rule.now k) × (term_of (get_or result k no_pair).other ≡ copied (meant rule.now).left (term_of (other_at rule.now k))) }
+    ensures { (k : ℕ) → k < rule.now.pair_count → ((slice_index_or result k no_pair).one ≡ one_at rule.now k) × (term_of (slice_index_or result k no_pair).other ≡ copied (meant rule.now).left (term_of (other_at rule.now k))) }
 {
     let mut pairs = [CodePair { one: 0, other: 0 }; 32];
     for k in 0..rule.pair_count {

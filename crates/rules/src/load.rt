@@ -1,5 +1,5 @@
 // Reading a rule out of any book.
-ghost use Rattle.std.specs.Prelude.{◌≡◌, ℕ, ◌<◌, ◌≤◌, length, get_or, Some, MatchOption, slice_index, slice_index_or};
+ghost use Rattle.std.specs.Prelude.{◌≡◌, ℕ, ◌<◌, ◌≤◌, length, Some, MatchOption, slice_index, slice_index_or};
 ghost use Rattle.rules.specs.declared.term.Term.{Term};
 ghost use Rattle.rules.specs.Books.{term_at, left_at, pair_at};
 ghost use Rattle.rules.specs.Loaded.{Answered, Codes, CodesPair, Loaded, no_codes, no_pair};
@@ -41,7 +41,7 @@ fn load_row<B: Book>(book: &B, rule: usize, row: usize) -> CodeRow
 
 // The codes of a pattern.
 fn load_rows<B: Book>(book: &B, rule: usize) -> [CodeRow; 8]
-    ensures { (i : ℕ) → i < 4 → (j : ℕ) → j < 8 → (t : Term) → term_at (B.meaning book.now).rules rule i j ≡ Some t → Codes t (slice_index (get_or result i no_codes).codes j) }
+    ensures { (i : ℕ) → i < 4 → (j : ℕ) → j < 8 → (t : Term) → term_at (B.meaning book.now).rules rule i j ≡ Some t → Codes t (slice_index (slice_index_or result i no_codes).codes j) }
 {
     let mut rows = [CodeRow { codes: [0; 8] }; 8];
     for row in 0..4 {
