@@ -1,7 +1,7 @@
 // The whole answer to a text, as it is printed.
 ghost use Rattle.std.specs.Prelude.{◌≡◌, ◌≤◌, length, take, IfOk};
 ghost use Rattle.reader.specs.Format.{read_text};
-ghost use Rattle.reader.specs.Reads.{lent, rooms_in};
+ghost use Rattle.reader.specs.Reads.{rooms_in};
 ghost use Rattle.writing.specs.Reports.{refusal_text};
 ghost use Rattle.spelling.specs.Room.{most};
 ghost use Rattle.report.specs.Answered.{Printed};
@@ -42,7 +42,9 @@ fn put_answer(
     names: &mut [Name],
     output: &mut [u8],
 ) -> usize
-    requires lent { lent rules.old targets.old names.old ≡ most }
+    requires rules { length rules.old ≡ 4096 }
+    requires targets { length targets.old ≡ 4096 }
+    requires names { length names.old ≡ 4096 }
     requires output { length output.old ≡ 415756 }
     ensures { Printed (read_text (rooms_in most) text.now) text.now most (take result output.new) }
 {
