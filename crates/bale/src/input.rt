@@ -10,8 +10,5 @@ pub fn read_input(rt: &HostRuntime) -> anyhow::Result<Vec<u8>> {
 }
 
 pub fn read_file(rt: &HostRuntime, path: &str) -> anyhow::Result<Vec<u8>> {
-    match fs::read(rt, path) {
-        Ok(text) => Ok(text),
-        Err(_) => Err(anyhow!("cannot read the file '{path}'")),
-    }
+    fs::read(rt, path).map_err(|_| anyhow!("cannot read the file '{path}'"))
 }

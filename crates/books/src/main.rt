@@ -3,13 +3,13 @@
 
 mod input;
 
-use anyhow::anyhow;
+use anyhow::ensure;
 use input::{key_list, sheet_words};
 use joins::joined::{Joined, check_join};
 use keys::key_list::KeyList;
 use listing::listing::list_book;
 use rules::book::Book;
-use rules::refusal::{Layer, Refusal};
+use rules::refusal::Refusal;
 use sheets::sheet::Sheet;
 use std::io;
 
@@ -22,11 +22,10 @@ fn run(rt: &HostRuntime) -> anyhow::Result<()> {
     let mut lines = text.as_str().lines();
     let first = lines.next().unwrap_or("");
     let second = lines.next().unwrap_or("");
-    for line in lines {
-        if !line.trim().is_empty() {
-            return Err(anyhow!("a sheet and a key list are two lines: after line 2 there is more"));
-        }
-    }
+    ensure!(
+        lines.all(|line| line.trim().is_empty()),
+        "a sheet and a key list are two lines: after line 2 there is more"
+    );
     list(rt, first, second)
 }
 
@@ -34,7 +33,7 @@ fn list(rt: &HostRuntime, first: &str, second: &str) -> anyhow::Result<()> {
     let words = sheet_words(rt.alloc(), first)?;
     let words = words.as_slice();
     if let Err(fault) = sheets::sheet::check(words) {
-        return print_refusal(rt, fault.refusal());
+        return print_refusal(rt, fault.into());
     }
     let sheet = Sheet::open(words);
     if second.trim().is_empty() {
@@ -44,11 +43,11 @@ fn list(rt: &HostRuntime, first: &str, second: &str) -> anyhow::Result<()> {
     let (width, bytes) = key_list(rt.alloc(), second)?;
     let bytes = bytes.as_slice();
     if let Err(fault) = keys::checking::check(width, bytes) {
-        return print_refusal(rt, fault.refusal());
+        return print_refusal(rt, fault.into());
     }
     let keys = KeyList::open(width, bytes);
     if let Err(fault) = check_join(&sheet, &keys) {
-        return print_refusal(rt, fault.refusal());
+        return print_refusal(rt, fault.into());
     }
     let joined = Joined {
         first: &sheet,
@@ -74,15 +73,6 @@ fn print_sum(
 }
 
 fn print_refusal(rt: &HostRuntime, refusal: Refusal) -> anyhow::Result<()> {
-    let number = refusal.number;
-    let place = refusal.place;
-    let layer = match refusal.layer {
-        Layer::Reader => "reader",
-        Layer::Book => "book",
-        Layer::Join => "join",
-        Layer::Trial => "trial",
-        Layer::Report => "report",
-    };
-    println!(rt; "refused {number} {layer} {place}")?;
+    println!(rt; "{refusal}")?;
     Ok(())
 }

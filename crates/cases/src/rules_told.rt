@@ -3,102 +3,91 @@ use rules::book::Book;
 use rules::term::{Kind, Term};
 use std::io;
 
-// What the constants of a case are called: press and dock, or by their numbers.
-#[derive(Clone, Copy)]
-pub enum Names {
-    Weights,
-    Plain,
-}
-
-pub fn print_constant(rt: &HostRuntime, names: Names, c: u32) -> io::Result<()> {
-    match names {
-        Names::Weights => {
-            let name = if c == 0 { "press" } else { "dock" };
-            print!(rt; " {name}")
-        }
-        Names::Plain => print!(rt; " {c}"),
+// A constant by its name, or by its number where it has none.
+pub fn print_constant(rt: &HostRuntime, names: &[&str], c: u32) -> io::Result<()> {
+    match names.get(c as usize) {
+        Some(name) => print!(rt; " {name}"),
+        None => print!(rt; " {c}"),
     }
 }
 
 pub fn print_rules<B: Book>(
     rt: &HostRuntime,
     title: &str,
-    names: Names,
+    names: &[&str],
     book: &B,
 ) -> anyhow::Result<()> {
     for rule in 0..book.count() {
-        print!(rt; "   {title}")?;
-        print_rule(rt, names, book, rule)?;
+        print!(rt; "   {title}: ")?;
+        let told = Told { names, book, rule };
+        told.print(rt)?;
     }
     Ok(())
 }
 
-fn print_rule<B: Book>(rt: &HostRuntime, names: Names, book: &B, rule: usize) -> io::Result<()> {
-    let functional = matches!(book.kind(rule), Some(Kind::Functional));
-    let kind = if functional { "functional" } else { "equality" };
-    print!(rt; ": {kind} {{")?;
-    for row in 0..book.rows(rule).unwrap_or(0) {
-        if row > 0 {
-            print!(rt; ",")?;
-        }
-        print_row(rt, names, book, rule, row)?;
-    }
-    print!(rt; " }}")?;
-    if functional {
-        print_sides(rt, book, rule)
-    } else {
-        print_pairs(rt, names, book, rule)
-    }
-}
-
-fn print_row<B: Book>(
-    rt: &HostRuntime,
-    names: Names,
-    book: &B,
+// A rule of a book, and what the constants are called.
+#[derive(Drop)]
+struct Told<'n, 's, 'b, B> {
+    names: &'n [&'s str],
+    book: &'b B,
     rule: usize,
-    row: usize,
-) -> io::Result<()> {
-    for column in 0..book.width() {
-        if let Some(term) = book.term(rule, row, column) {
-            print_term(rt, names, term)?;
-        }
-    }
-    Ok(())
 }
 
-// Left variables, an arrow, and right variables.
-fn print_sides<B: Book>(rt: &HostRuntime, book: &B, rule: usize) -> io::Result<()> {
-    if book.left(rule, 0).is_none() {
-        print!(rt; " nothing")?;
-    }
-    for k in 0..32 {
-        if let Some(v) = book.left(rule, k) {
-            print!(rt; " ${v}")?;
+impl<B: Book> Told<'_, '_, '_, B> {
+    fn print(&self, rt: &HostRuntime) -> io::Result<()> {
+        let kind = self.book.kind(self.rule).unwrap_or(Kind::Equality);
+        print!(rt; "{kind} {{")?;
+        for row in 0..self.book.rows(self.rule).unwrap_or(0) {
+            if row > 0 {
+                print!(rt; ",")?;
+            }
+            self.print_row(rt, row)?;
+        }
+        print!(rt; " }}")?;
+        match kind {
+            Kind::Functional => self.print_sides(rt),
+            Kind::Equality => self.print_pairs(rt),
         }
     }
-    print!(rt; " ->")?;
-    for k in 0..32 {
-        if let Some((term, _)) = book.pair(rule, k) {
-            print_term(rt, Names::Plain, term)?;
-        }
-    }
-    println!(rt; "")
-}
 
-fn print_pairs<B: Book>(rt: &HostRuntime, names: Names, book: &B, rule: usize) -> io::Result<()> {
-    for k in 0..32 {
-        if let Some((one, other)) = book.pair(rule, k) {
-            print_term(rt, names, one)?;
+    fn print_row(&self, rt: &HostRuntime, row: usize) -> io::Result<()> {
+        for term in (0..self.book.width()).filter_map(|column| self
+            .book
+            .term(self.rule, row, column))
+        {
+            self.print_term(rt, term)?;
+        }
+        Ok(())
+    }
+
+    // Left variables, an arrow, and right variables.
+    fn print_sides(&self, rt: &HostRuntime) -> io::Result<()> {
+        if self.book.left(self.rule, 0).is_none() {
+            print!(rt; " nothing")?;
+        }
+        for v in (0..32).filter_map(|k| self.book.left(self.rule, k)) {
+            print!(rt; " {}", Term::Variable(v))?;
+        }
+        print!(rt; " ->")?;
+        for (term, _) in (0..32).filter_map(|k| self.book.pair(self.rule, k)) {
+            print!(rt; " {term}")?;
+        }
+        println!(rt; "")
+    }
+
+    fn print_pairs(&self, rt: &HostRuntime) -> io::Result<()> {
+        for (one, other) in (0..32).filter_map(|k| self.book.pair(self.rule, k)) {
+            self.print_term(rt, one)?;
             print!(rt; " =")?;
-            print_term(rt, names, other)?;
+            self.print_term(rt, other)?;
         }
+        println!(rt; "")
     }
-    println!(rt; "")
-}
 
-fn print_term(rt: &HostRuntime, names: Names, term: Term) -> io::Result<()> {
-    match term {
-        Term::Constant(c) => print_constant(rt, names, c),
-        Term::Variable(v) => print!(rt; " ${v}"),
+    fn print_term(&self, rt: &HostRuntime, term: Term) -> io::Result<()> {
+        match term {
+            Term::Constant(c) => print_constant(rt, self.names, c),
+            Term::Variable(_) => print!(rt; " {term}"),
+        }
     }
 }

@@ -1,68 +1,49 @@
 // What a trial answered, in words.
-use crate::rules_told::{Names, print_constant};
-use law::outcome::{Stop, Verdict};
+use crate::rules_told::print_constant;
+use rules::book::Book;
+use rules::refusal::Refusal;
+use rules::term::BASE;
 use std::io;
+use trial::fault::TrialFault;
 use trial::finished::Finished;
 use trial::replay::Outcome;
-use trial::reply::Reply;
+use trial::reply::Done;
+use trial::request::Request;
 
-// The reply to call number i: the start, and then the advances by these limits.
-pub fn print_reply(
+// What was asked of the trial, and what it replied.
+pub fn print_reply<T: Book>(
     rt: &HostRuntime,
-    i: usize,
-    limits: &[usize],
-    reply: Reply,
-) -> anyhow::Result<()> {
-    if i == 0 {
-        print!(rt; "   start: ")?;
-    } else {
-        let n = if i <= limits.len() { limits[i - 1] } else { 0 };
-        print!(rt; "   advance by {n}: ")?;
+    request: &Request<'_, T>,
+    reply: Result<Done, TrialFault>,
+) -> io::Result<()> {
+    match request {
+        Request::Start(_, _) => print!(rt; "   start: ")?,
+        Request::Advance(n) => print!(rt; "   advance by {n}: ")?,
     }
     match reply {
-        Reply::Done => println!(rt; "done")?,
-        Reply::Made(made, stop) => print_made(rt, made, stop)?,
-        Reply::Refused(fault) => {
-            let refusal = fault.refusal();
-            let number = refusal.number;
-            let place = refusal.place;
-            println!(rt; "refused {number} trial {place}")?
-        }
+        Ok(Done::Started) => println!(rt; "done"),
+        Ok(Done::Merged(made, stop)) => println!(rt; "{made}, {stop}"),
+        Err(fault) => rt.println(Refusal::from(fault)),
     }
-    Ok(())
 }
 
-fn print_made(rt: &HostRuntime, made: usize, stop: Stop) -> io::Result<()> {
-    let why = match stop {
-        Stop::Spent => "spent",
-        Stop::Rest => "rest",
-        Stop::Clash => "clash",
-    };
-    println!(rt; "{made}, {why}")
-}
-
-pub fn print_outcome(rt: &HostRuntime, names: Names, outcome: &Outcome) -> anyhow::Result<()> {
+pub fn print_outcome(rt: &HostRuntime, names: &[&str], outcome: &Outcome) -> io::Result<()> {
     match outcome {
-        Outcome::Going(_) => println!(rt; "   goes on")?,
-        Outcome::Finished(finished) => print_finished(rt, names, finished)?,
+        Outcome::Going(_) => println!(rt; "   goes on"),
+        Outcome::Finished(finished) => print_finished(rt, names, finished),
     }
-    Ok(())
 }
 
-fn print_finished(rt: &HostRuntime, names: Names, finished: &Finished) -> io::Result<()> {
-    let verdict = match finished.verdict() {
-        Verdict::Void => "void",
-        Verdict::Follows => "follows",
-        Verdict::Fails => "fails",
-    };
-    let merges = finished.merges();
-    println!(rt; "   finish: {verdict}, merges in all: {merges}")?;
+fn print_finished(rt: &HostRuntime, names: &[&str], finished: &Finished) -> io::Result<()> {
+    println!(rt;
+        "   finish: {}, merges in all: {}",
+        finished.verdict(),
+        finished.merges()
+    )?;
     for row in 0..finished.rows() {
         print!(rt; "   row")?;
-        for column in 0..finished.width() {
-            if let Some(number) = finished.entry(row, column) {
-                print_entry(rt, names, number)?;
-            }
+        for number in (0..finished.width()).filter_map(|column| finished.entry(row, column)) {
+            print_entry(rt, names, number)?;
         }
         println!(rt; "")?;
     }
@@ -70,10 +51,9 @@ fn print_finished(rt: &HostRuntime, names: Names, finished: &Finished) -> io::Re
 }
 
 // A constant by its name, a symbol by its number.
-fn print_entry(rt: &HostRuntime, names: Names, number: u32) -> io::Result<()> {
-    if number < 16777216 {
-        return print_constant(rt, names, number);
+fn print_entry(rt: &HostRuntime, names: &[&str], number: u32) -> io::Result<()> {
+    match number.checked_sub(BASE) {
+        None => print_constant(rt, names, number),
+        Some(symbol) => print!(rt; " ${symbol}"),
     }
-    let symbol = number - 16777216;
-    print!(rt; " ${symbol}")
 }

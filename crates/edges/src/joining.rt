@@ -1,22 +1,23 @@
 // Joined books at their edges.
 use crate::making::plain_sheet;
-use crate::saying::{print_refusal, print_size};
+use crate::saying::print_book;
 use joins::joined::{Joined, check_join};
 use rules::book::Book;
 use sheets::sheet::Sheet;
 use std::io;
 
-// The question's answer, and what the joined book is.
 fn print_join<A: Book, B: Book>(
     rt: &HostRuntime,
     case: &str,
     first: &A,
     second: &B,
 ) -> io::Result<()> {
-    if let Err(fault) = check_join(first, second) {
-        print_refusal(rt, case, fault.refusal())?;
-    }
-    print_size(rt, case, &Joined { first, second })
+    print_book(
+        rt,
+        case,
+        check_join(first, second),
+        &Joined { first, second },
+    )
 }
 
 pub fn print_joins(rt: &HostRuntime) -> anyhow::Result<()> {

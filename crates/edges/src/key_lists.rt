@@ -1,16 +1,12 @@
 // Key lists at their edges.
 use crate::making::key_bytes;
-use crate::saying::{print_refusal, print_size};
+use crate::saying::print_book;
 use keys::checking::check;
 use keys::key_list::KeyList;
 use std::io;
 
-// The check's answer, and what the key list opens as.
 fn print_keys(rt: &HostRuntime, case: &str, width: usize, bytes: &[u8]) -> io::Result<()> {
-    if let Err(fault) = check(width, bytes) {
-        print_refusal(rt, case, fault.refusal())?;
-    }
-    print_size(rt, case, &KeyList::open(width, bytes))
+    print_book(rt, case, check(width, bytes), &KeyList::open(width, bytes))
 }
 
 pub fn print_key_lists(rt: &HostRuntime) -> anyhow::Result<()> {
@@ -18,7 +14,7 @@ pub fn print_key_lists(rt: &HostRuntime) -> anyhow::Result<()> {
     print_keys(rt, "key width 1", 1, &[1, 1])?;
     print_keys(rt, "key width 8", 8, &[255, 255])?;
     print_keys(rt, "key width 9", 9, &[1, 1])?;
-    print_keys(rt, "greatest key width", 18446744073709551615, &[])?;
+    print_keys(rt, "greatest key width", usize::MAX, &[])?;
     print_keys(rt, "no pairs", 3, &[])?;
     print_keys(rt, "empty columns", 3, &[0, 0])?;
     print_keys(rt, "a left bit at the width", 3, &[1, 2, 8, 1])?;

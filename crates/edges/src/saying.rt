@@ -1,23 +1,24 @@
 // What comes of a case, in a line.
 use rules::book::Book;
-use rules::refusal::{Layer, Refusal};
+use rules::refusal::Refusal;
 use std::io;
 
-pub fn print_refusal(rt: &HostRuntime, case: &str, refusal: Refusal) -> io::Result<()> {
-    let number = refusal.number;
-    let place = refusal.place;
-    let layer = match refusal.layer {
-        Layer::Reader => "reader",
-        Layer::Book => "book",
-        Layer::Join => "join",
-        Layer::Trial => "trial",
-        Layer::Report => "report",
-    };
-    println!(rt; "{case}: refused {number} {layer} {place}")
+// Why the check or the question refuses, if it does, and what the book opens as.
+pub fn print_book<F: Into<Refusal>, B: Book>(
+    rt: &HostRuntime,
+    case: &str,
+    checked: Result<(), F>,
+    book: &B,
+) -> io::Result<()> {
+    if let Err(fault) = checked {
+        let refusal: Refusal = fault.into();
+        println!(rt; "{case}: {refusal}")?;
+    }
+    print_size(rt, case, book)
 }
 
 // The width and the count of a book, the same whatever book it is.
-pub fn print_size<B: Book>(rt: &HostRuntime, case: &str, book: &B) -> io::Result<()> {
+fn print_size<B: Book>(rt: &HostRuntime, case: &str, book: &B) -> io::Result<()> {
     let width = book.width();
     let count = book.count();
     let past = if book.kind(count).is_none() {

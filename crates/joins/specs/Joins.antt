@@ -1,5 +1,5 @@
 -- What two books say as one.
-use Rattle.std.specs.Prelude.{◌≡◌, ℕ, ◌+◌, ◌<◌, ◌≤◌, Bool, true, false, cond, ◌&&◌, ◌≢◌, List, ◌++◌, length, None, Ok, Err, Result, ◌==◌, nat_le, refl}
+use Rattle.std.specs.Prelude.{◌≡◌, ℕ, ◌+◌, ◌<◌, ◌≤◌, Bool, true, false, cond, ◌&&◌, ◌≢◌, List, ◌++◌, length, None, Some, Option, Ok, Err, Result, ◌==◌, nat_le, refl}
 use Rattle.std.proofs.Common.{sym, subst, inl, inr, arith, length-append, eqb-true, leb-true}
 use mathlib.Core.List.Memᴰ
 use Rattle.std.specs.List.{slice_get}
@@ -10,7 +10,7 @@ use Rattle.rules.specs.declared.refusal.Layer.TheVariants.{Join}
 use Rattle.joins.specs.declared.fault.JoinFault.{JoinFault}
 use Rattle.joins.specs.declared.fault.JoinFault.TheVariants.{WidthsDiffer, TooManyRules}
 use Rattle.joins.specs.declared.place.Place.{Place}
-use Rattle.joins.specs.declared.place.Place.TheVariants.{First, Second, Nowhere}
+use Rattle.joins.specs.declared.place.Place.TheVariants.{First, Second}
 
 -- two books can be joined: they have one width, and at most 1,024 rules together
 abbrev pub fits : BookMeaning → BookMeaning → Bool
@@ -39,11 +39,11 @@ Answers m n (Ok _) =
     (m.width ≡ n.width) × (length m.rules + length n.rules ≤ 1024) × (join_meaning m n ≡ record { width = m.width; rules = m.rules ++ n.rules })
 Answers m n (Err e) = Refused m n e × (join_meaning m n ≡ m)
 
--- where the rule at a place of a joined book stands
-abbrev pub Stands : Place → List Rule → List Rule → List Rule → ℕ → Type 0
-Stands First all one two i = slice_get all i ≡ slice_get one i
-Stands (Second k) all one two i = slice_get all i ≡ slice_get two k
-Stands Nowhere all one two i = slice_get all i ≡ None
+-- where the rule at a place of a joined book stands, or that there is none
+abbrev pub Stands : Option Place → List Rule → List Rule → List Rule → ℕ → Type 0
+Stands (Some (First k)) all one two i = slice_get all i ≡ slice_get one k
+Stands (Some (Second k)) all one two i = slice_get all i ≡ slice_get two k
+Stands None all one two i = slice_get all i ≡ None
 
 -- below: a joined book is well formed, as the trait asks of each implementation
 

@@ -1,28 +1,10 @@
-ghost use Rattle.std.specs.Prelude.{◌≡◌, length};
-ghost use Rattle.joins.specs.Joins.{Answers, Stands, fits, join_well, join_meaning, join_refusal};
+ghost use Rattle.std.specs.Prelude.{◌≡◌};
+ghost use Rattle.joins.specs.Joins.{Answers, Stands, fits, join_well, join_meaning};
 
 use crate::fault::JoinFault;
 use crate::place::Place;
 use rules::book::Book;
-use rules::refusal::{Layer, Refusal};
 use rules::term::{Kind, Term};
-
-impl JoinFault {
-    // The refusal as every layer tells it.
-    pub fn refusal(self) -> Refusal
-        ensures { result ≡ join_refusal self }
-    {
-        let number = match self {
-            JoinFault::WidthsDiffer => 9,
-            JoinFault::TooManyRules => 12,
-        };
-        Refusal {
-            number,
-            layer: Layer::Join,
-            place: 0,
-        }
-    }
-}
 
 // Whether two books can be joined: the question to ask beforehand.
 pub fn check_join<A: Book, B: Book>(first: &A, second: &B) -> Result<(), JoinFault>
@@ -48,23 +30,17 @@ impl<A: Book, B: Book> Joined<A, B> {
     fn fit(&self) -> bool
         ensures { result ≡ fits (A.Book.meaning self.now.first) (B.Book.meaning self.now.second) }
     {
-        let alike = self.first.width() == self.second.width();
-        let few = self.first.count() + self.second.count() <= 1024;
-        alike && few
+        check_join(&self.first, &self.second).is_ok()
     }
 
-    fn place(&self, rule: usize) -> Place
+    fn place(&self, rule: usize) -> Option<Place>
         ensures { Stands result (join_meaning (A.Book.meaning self.now.first) (B.Book.meaning self.now.second)).rules (A.Book.meaning self.now.first).rules (B.Book.meaning self.now.second).rules rule }
     {
         let count = self.first.count();
         if rule < count {
-            return Place::First;
+            return Some(Place::First(rule));
         }
-        if self.fit() {
-            Place::Second(rule - count)
-        } else {
-            Place::Nowhere
-        }
+        self.fit().then_some(Place::Second(rule - count))
     }
 }
 
@@ -86,43 +62,40 @@ impl<A: Book, B: Book> Book for Joined<A, B> {
         }
     }
 
+    // Each question goes to the book where the rule stands. The five stay apart: a closure that asks takes one type of
+    // book, and here there are two.
     fn kind(&self, rule: usize) -> Option<Kind> {
-        match self.place(rule) {
-            Place::First => self.first.kind(rule),
-            Place::Second(k) => self.second.kind(k),
-            Place::Nowhere => None,
+        match self.place(rule)? {
+            Place::First(i) => self.first.kind(i),
+            Place::Second(i) => self.second.kind(i),
         }
     }
 
     fn rows(&self, rule: usize) -> Option<usize> {
-        match self.place(rule) {
-            Place::First => self.first.rows(rule),
-            Place::Second(k) => self.second.rows(k),
-            Place::Nowhere => None,
+        match self.place(rule)? {
+            Place::First(i) => self.first.rows(i),
+            Place::Second(i) => self.second.rows(i),
         }
     }
 
     fn term(&self, rule: usize, row: usize, column: usize) -> Option<Term> {
-        match self.place(rule) {
-            Place::First => self.first.term(rule, row, column),
-            Place::Second(k) => self.second.term(k, row, column),
-            Place::Nowhere => None,
+        match self.place(rule)? {
+            Place::First(i) => self.first.term(i, row, column),
+            Place::Second(i) => self.second.term(i, row, column),
         }
     }
 
     fn left(&self, rule: usize, k: usize) -> Option<u8> {
-        match self.place(rule) {
-            Place::First => self.first.left(rule, k),
-            Place::Second(n) => self.second.left(n, k),
-            Place::Nowhere => None,
+        match self.place(rule)? {
+            Place::First(i) => self.first.left(i, k),
+            Place::Second(i) => self.second.left(i, k),
         }
     }
 
     fn pair(&self, rule: usize, k: usize) -> Option<(Term, Term)> {
-        match self.place(rule) {
-            Place::First => self.first.pair(rule, k),
-            Place::Second(n) => self.second.pair(n, k),
-            Place::Nowhere => None,
+        match self.place(rule)? {
+            Place::First(i) => self.first.pair(i, k),
+            Place::Second(i) => self.second.pair(i, k),
         }
     }
 }

@@ -4,3 +4,4 @@
 pub mod fault;
 pub mod joined;
 mod place;
+mod refusing;

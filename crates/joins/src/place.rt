@@ -1,8 +1,6 @@
-// Where a rule of a joined book stands: in the first book under the same number, in the second under this one, or
-// nowhere.
+// Where a rule of a joined book stands: the book, and the rule's number there.
 #[derive(Clone, Copy)]
 pub enum Place {
-    First,
+    First(usize),
     Second(usize),
-    Nowhere,
 }

@@ -1,15 +1,15 @@
 -- Steps of the loops, and what stands where in the rules of a key list.
-use Rattle.std.proofs.Common.{◌≡◌, ℕ, zero, suc, ◌+◌, ◌-◌, ◌*◌, ◌/◌, ◌^◌, ◌<◌, ◌≤◌, true, false, cond, List, [], ◌∷◌, map, length, get_or, Some, None, Ok, Err, filter, Option, sym, refl, ap, ◌∙◌, arith, le-ltb, lt-ltb}
-use Rattle.std.specs.List.{range_with_len, slice_get}
-use Rattle.std.specs.Option.{option_map}
+use Rattle.std.proofs.Common.{◌≡◌, ℕ, zero, suc, ◌+◌, ◌*◌, ◌/◌, ◌^◌, ◌<◌, ◌≤◌, cond, List, [], ◌∷◌, length, get_or, Some, None, Ok, Err, Option, sym, refl, ap, ◌∙◌, arith, le-ltb, lt-ltb}
+use Rattle.std.specs.List.{slice_get}
+use Rattle.std.specs.Option.{option_map, MatchOption}
 use Rattle.std.proofs.lemmas.List.FromFn.{length-map-range_with_len, get_or-map-range_with_len}
 use Rattle.std.proofs.lemmas.Option.{slice_get-get_or, slice_get_past}
 use Rattle.rules.specs.Rules.{Rule}
-use Rattle.rules.specs.Books.{within, term_at, pair_at}
+use Rattle.rules.specs.Books.{within, term_at}
 use Rattle.rules.specs.declared.term.Term.TheVariants.{Variable}
-use Rattle.keys.specs.Keys.{has_bit, columns, variables, twice, key_rule, key_rules, AllBelow}
+use Rattle.keys.specs.Keys.{variables, key_rule, key_rules, AllBelow}
 use Rattle.rules.specs.declared.fault.BookFault.{BookFault}
-use Rattle.keys.specs.Faults.{fault_at, shaped, low_from, and_then, checked}
+use Rattle.keys.specs.Faults.{Checked, fault_at, shaped, low_from, and_then, checked}
 
 -- the tests of the bytes, from what was found
 pub low_all : (limit : ℕ) (bytes : List ℕ) (place : ℕ) → AllBelow limit bytes (length bytes) → low_from limit bytes place ≡ Ok tt
@@ -26,24 +26,9 @@ low_first limit (byte ∷ bytes) place (suc i) l h below =
     ap (λ t. cond t (low_from limit bytes (place + 1)) (fault_at place)) (lt-ltb byte limit (below 0 (omega arith)))
     ∙ low_first limit bytes (place + 1) i (omega arith) h (λ k m. below (suc k) (omega arith)) ∙ ap fault_at (omega arith)
 
--- the columns from one on
-abbrev pub columns_from : ℕ → ℕ → ℕ → List ℕ
-columns_from byte j n = filter (has_bit byte) (range_with_len j n)
-
-pub column_set : (byte j n m : ℕ) → n ≡ suc m → has_bit byte j ≡ true → columns_from byte j n ≡ j ∷ columns_from byte (j + 1) m
-column_set byte j n m e h = ap (columns_from byte j) e ∙ ap (λ t. cond t (j ∷ columns_from byte (j + 1) m) (columns_from byte (j + 1) m)) h
-
-pub column_clear : (byte j n m : ℕ) → n ≡ suc m → has_bit byte j ≡ false → columns_from byte j n ≡ columns_from byte (j + 1) m
-column_clear byte j n m e h = ap (columns_from byte j) e ∙ ap (λ t. cond t (j ∷ columns_from byte (j + 1) m) (columns_from byte (j + 1) m)) h
-
-pub nth_later : {X : Type 0} (x : X) (xs : List X) (i : ℕ) → 0 < i → slice_get (x ∷ xs) i ≡ slice_get xs (i - 1)
-nth_later x xs zero h = absurd (omega arith)
-nth_later x xs (suc i) h = ap (slice_get xs) (omega arith)
-
-nth_map : {X Y : Type 0} (f : X → Y) (xs : List X) (i : ℕ) → slice_get (map f xs) i ≡ option_map f (slice_get xs i)
-nth_map f [] i = refl
-nth_map f (x ∷ xs) zero = refl
-nth_map f (x ∷ xs) (suc i) = nth_map f xs i
+pub same_option : {X : Type 0} (o : Option X) → option_map (λ x. x) o ≡ o
+same_option None = refl
+same_option (Some x) = refl
 
 -- the row of variables
 variable_here : (width j : ℕ) → j < width → slice_get (variables width) j ≡ Some (Variable j)
@@ -89,12 +74,17 @@ module _ (rules : List Rule) (i width left right : ℕ) (e : slice_get rules i �
   row_past zero column h = absurd (omega arith)
   row_past (suc row) column h = term_row (suc row) column
 
-  pub pair_here : (k : ℕ) (o : Option ℕ) → o ≡ slice_get (columns width right) k → pair_at rules i k ≡ option_map twice o
-  pair_here k o h = ap (λ r. within r (λ r. slice_get r.pairs k)) e ∙ nth_map twice (columns width right) k ∙ ap (option_map twice) (sym h)
-
 -- the check, from its two parts
 pub check_failed : (width : ℕ) (bytes : List ℕ) (f : BookFault) → Err f ≡ shaped width (length bytes) → checked width bytes ≡ Err f
 check_failed width bytes f e = ap (λ r. and_then r (low_from (2 ^ width) bytes 0)) (sym e)
 
-pub check_low : (width : ℕ) (bytes : List ℕ) (limit : ℕ) → limit ≡ 2 ^ width → Ok tt ≡ shaped width (length bytes) → checked width bytes ≡ low_from limit bytes 0
-check_low width bytes limit l e = ap (λ r. and_then r (low_from (2 ^ width) bytes 0)) (sym e) ∙ ap (λ n. low_from n bytes 0) (sym l)
+-- what is told of the first byte that is too high, or that there is none, is what the check comes to
+pub check_told : (width : ℕ) (bytes : List ℕ) (limit : ℕ) (o : Option ℕ) (r : Checked) → limit ≡ 2 ^ width → Ok tt ≡ shaped width (length bytes)
+    → MatchOption o (AllBelow limit bytes (length bytes)) (λ i. (i < length bytes) × (limit ≤ get_or bytes i 0) × AllBelow limit bytes i)
+    → MatchOption o (r ≡ Ok tt) (λ place. r ≡ fault_at place) → r ≡ checked width bytes
+check_told width bytes limit o r l e found told = by_case o found told ∙ (ap (λ n. low_from n bytes 0) l ∙ ap (λ x. and_then x (low_from (2 ^ width) bytes 0)) e)
+  where
+    by_case : (o : Option ℕ) → MatchOption o (AllBelow limit bytes (length bytes)) (λ i. (i < length bytes) × (limit ≤ get_or bytes i 0) × AllBelow limit bytes i)
+        → MatchOption o (r ≡ Ok tt) (λ place. r ≡ fault_at place) → r ≡ low_from limit bytes 0
+    by_case None below t = t ∙ sym (low_all limit bytes 0 below)
+    by_case (Some i) first t = t ∙ sym (low_first limit bytes 0 i first.0 first.1 first.2 ∙ ap fault_at (omega arith))

@@ -26,12 +26,7 @@ fn shape(width: usize, count: usize) -> Result<(), BookFault>
 fn first_high(bytes: &[u8], limit: u16) -> Option<usize>
     ensures { MatchOption result (AllBelow limit bytes.now (length bytes.now)) (λ i. (i < length bytes.now) × (limit ≤ slice_index bytes.now i) × AllBelow limit bytes.now i) }
 {
-    for (i, byte) in bytes.iter().enumerate() {
-        if u16::from(*byte) >= limit {
-            return Some(i);
-        }
-    }
-    None
+    bytes.iter().position(|byte| u16::from(*byte) >= limit)
 }
 
 // Checks a key list, and tells the place of its first fault.
@@ -40,8 +35,5 @@ pub fn check(width: usize, bytes: &[u8]) -> Result<(), BookFault>
     ensures says { Says width bytes.now result }
 {
     shape(width, bytes.len())?;
-    match first_high(bytes, 1 << width) {
-        Some(place) => Err(BookFault { place }),
-        None => Ok(()),
-    }
+    first_high(bytes, 1 << width).map_or(Ok(()), |place| Err(BookFault { place }))
 }

@@ -4,7 +4,7 @@ ghost use Rattle.std.specs.List.{slice_get};
 ghost use Rattle.keys.specs.Keys.{columns, has_bit};
 
 // Whether a column is among them.
-fn has_column(byte: u8, j: usize) -> bool
+fn has_column(byte: u8, j: u8) -> bool
     requires { j < 8 }
     ensures { result ≡ has_bit byte j }
 {
@@ -16,14 +16,5 @@ pub(crate) fn column(byte: u8, width: usize, k: usize) -> Option<u8>
     requires { width ≤ 8 }
     ensures { result ≡ slice_get (columns width byte) k }
 {
-    let mut before = k;
-    for j in 0..width {
-        if has_column(byte, j) {
-            if before == 0 {
-                return Some(j as u8);
-            }
-            before -= 1;
-        }
-    }
-    None
+    (0..width as u8).filter(|j| has_column(byte, *j)).nth(k)
 }

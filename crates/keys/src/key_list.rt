@@ -34,17 +34,13 @@ impl<'a> KeyList<'a> {
     {
         // This does nothing: it brings the law that the contract cites.
         keys_are_dependencies();
-        match check(width, bytes) {
-            Ok(()) => {
-                return KeyList { width, bytes };
-            }
-            Err(_) => {
-                return KeyList {
-                    width: 1,
-                    bytes: &bytes[0..0],
-                };
-            }
+        if check(width, bytes).is_err() {
+            return KeyList {
+                width: 1,
+                bytes: &[],
+            };
         }
+        KeyList { width, bytes }
     }
 
     // The bytes of a rule.
@@ -75,13 +71,11 @@ impl<'a> Book for KeyList<'a> {
     }
 
     fn kind(&self, rule: usize) -> Option<Kind> {
-        self.key(rule)?;
-        Some(Kind::Functional)
+        self.key(rule).map(|_| Kind::Functional)
     }
 
     fn rows(&self, rule: usize) -> Option<usize> {
-        self.key(rule)?;
-        Some(1)
+        self.key(rule).map(|_| 1)
     }
 
     fn term(&self, rule: usize, row: usize, column: usize) -> Option<Term> {

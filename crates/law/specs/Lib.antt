@@ -7,3 +7,4 @@ pub mod Stored
 pub mod Standing
 pub mod Renaming
 pub mod Laws
+pub mod Words

@@ -1,20 +1,19 @@
 -- A book in words, byte by byte.
-use Rattle.std.specs.Prelude.{ℕ, ◌+◌, List, [], ◌∷◌, ◌++◌, Some, None, codes, decimal, Option}
+use Rattle.std.specs.Prelude.{ℕ, ◌+◌, List, [], ◌∷◌, ◌++◌, codes, decimal, Option, slice_index_or}
 use Rattle.std.specs.List.{flat_map, slice_get}
 use Rattle.rules.specs.declared.term.Term.{Term}
-use Rattle.rules.specs.declared.term.Term.TheVariants.{Constant, Variable}
+use Rattle.rules.specs.declared.term.Term.TheVariants.{Variable}
 use Rattle.rules.specs.declared.term.Kind.{Kind}
 use Rattle.rules.specs.declared.term.Kind.TheVariants.{Functional, Equality}
 use Rattle.rules.specs.Rules.{Rule}
-use Rattle.rules.specs.Books.{within}
+use Rattle.rules.specs.Printed.{kind_name, term_name}
 
 -- a term after a space: a constant as its number, a variable as `$` and its number
 abbrev pub term_text : Term → List ℕ
-term_text (Constant c) = codes " " ++ decimal c
-term_text (Variable v) = codes " $" ++ decimal v
+term_text t = codes " " ++ term_name t
 
 abbrev pub left_text : ℕ → List ℕ
-left_text v = codes " $" ++ decimal v
+left_text v = term_text (Variable v)
 
 -- a right variable is the first side of its pair
 abbrev pub right_text : Term × Term → List ℕ
@@ -27,8 +26,7 @@ abbrev pub row_text : List Term → List ℕ
 row_text row = codes "  row" ++ (flat_map term_text row ++ codes "\n")
 
 abbrev pub kind_text : Kind → List ℕ
-kind_text Functional = codes "functional\n"
-kind_text Equality = codes "equality\n"
+kind_text k = kind_name k ++ codes "\n"
 
 -- what follows the rows
 abbrev pub lists_text : Kind → Rule → List ℕ
@@ -44,11 +42,12 @@ abbrev pub rules_text : ℕ → List Rule → List ℕ
 rules_text i [] = []
 rules_text i (r ∷ rules) = rule_text i r ++ rules_text (i + 1) rules
 
--- what is written where there may be nothing
-abbrev pub written : {X : Type 0} → (X → List ℕ) → Option X → List ℕ
-written text None = []
-written text (Some x) = text x
+-- the rule with a number that a list has, and a row of a rule
+abbrev pub no_rule : Rule
+no_rule = record { kind = Equality; pattern = []; left = []; pairs = [] }
 
--- a row of a rule of a list
-abbrev pub row_at : List Rule → ℕ → ℕ → Option (List Term)
-row_at rules i row = within (slice_get rules i) (λ r. slice_get r.pattern row)
+abbrev pub rule_here : List Rule → ℕ → Rule
+rule_here rules i = slice_index_or rules i no_rule
+
+abbrev pub row_at : Rule → ℕ → Option (List Term)
+row_at r row = slice_get r.pattern row

@@ -1,241 +1,123 @@
-ghost use Rattle.std.specs.Prelude.{◌≡◌, List, ◌++◌, IfOk, Some, string_bytes, OnOk};
-ghost use Rattle.listing.specs.Listing.{kind_text, left_text, lists_text, pair_text, right_text, row_at, row_text, rule_text, rules_text, term_text, written};
-ghost use Rattle.rules.specs.Rules.{Rule};
+ghost use Rattle.std.specs.Prelude.{◌≡◌, ℕ, ◌<◌, ◌≤◌, List, Option, ◌++◌, length, IfOk, Some, string_bytes, OnOk};
+ghost use Rattle.listing.specs.Listing.{left_text, lists_text, right_text, row_at, row_text, rule_here, rule_text, rules_text, pair_text, term_text};
 ghost use Rattle.rules.specs.declared.term.Kind.TheVariants.{Functional};
 ghost use Rattle.rules.specs.declared.term.Term.{Term};
 ghost use Rattle.std.specs.List.{flat_map, slice_get};
 
+use crate::words::{Entry, PairLine};
 use rules::book::Book;
 use rules::term::{Kind, Term};
 use std::alloc::{AllocError, Global};
+use std::fmt;
 
-// Writes a text.
-fn push_text(out: &mut String, text: &str) -> Result<(), AllocError>
-    ensures { OnOk result (string_bytes out.new ≡ string_bytes out.old ++ text.now) }
+// Writes what a question answers about the first places, one after another.
+fn push_each<T: fmt::Display + Drop, Q: Fn(usize) -> Option<T>>(
+    out: &mut String,
+    most: usize,
+    ask: Q,
+) -> Result<(), AllocError>
+    requires { Q.IsAlwaysCallable ask }
+    ensures { OnOk result ((text : T → List ℕ) (xs : List T) → ((x : T) → T.output x ≡ Some (text x)) → ((k : ℕ) (o : Option T) → Q.post ask k o → o ≡ slice_get xs k) → length xs ≤ most → string_bytes out.new ≡ string_bytes out.old ++ flat_map text xs) }
 {
-    out.push_str(text)
-}
-
-// Writes a term after a space, where there is one.
-fn push_term(heap: Global, out: &mut String, term: Option<Term>) -> Result<(), AllocError>
-    ensures { OnOk result (string_bytes out.new ≡ string_bytes out.old ++ written term_text term) }
-{
-    match term {
-        None => Ok(()),
-        Some(Term::Constant(c)) => {
-            let text = format!(in heap; " {c}")?;
-            out.push_str(text.as_str())
-        }
-        Some(Term::Variable(v)) => {
-            let text = format!(in heap; " ${v}")?;
-            out.push_str(text.as_str())
+    for k in 0..most {
+        if let Some(item) = ask(k) {
+            write!(out, "{item}")?;
         }
     }
+    Ok(())
 }
 
-// Writes a left variable, where there is one.
-fn push_left(heap: Global, out: &mut String, left: Option<u8>) -> Result<(), AllocError>
-    ensures { OnOk result (string_bytes out.new ≡ string_bytes out.old ++ written left_text left) }
-{
-    match left {
-        None => Ok(()),
-        Some(v) => {
-            let text = format!(in heap; " ${v}")?;
-            out.push_str(text.as_str())
+// A rule of a book.
+#[derive(Drop)]
+struct Listed<'a, B: Book> {
+    book: &'a B,
+    rule: usize,
+    ghost there: { rule < length (B.meaning book.now).rules },
+}
+
+impl<'a, B: Book> Listed<'a, B> {
+    // Writes the terms of a row.
+    fn push_terms(&self, out: &mut String, row: usize) -> Result<(), AllocError>
+        ensures { OnOk result ((terms : List Term) → row_at (rule_here (B.meaning self.now.book.now).rules self.now.rule) row ≡ Some terms → string_bytes out.new ≡ string_bytes out.old ++ flat_map term_text terms) }
+    {
+        push_each(out, 8, |column| {
+            self.book.term(self.rule, row, column).map(Entry)
+        })
+    }
+
+    // Writes the line of each row.
+    fn push_rows(&self, out: &mut String) -> Result<(), AllocError>
+        ensures { OnOk result (string_bytes out.new ≡ string_bytes out.old ++ flat_map row_text (rule_here (B.meaning self.now.book.now).rules self.now.rule).pattern) }
+    {
+        let rows = self.book.rows(self.rule).unwrap();
+        for row in 0..rows {
+            out.push_str("  row")?;
+            self.push_terms(out, row)?;
+            out.push_str("\n")?;
+        }
+        Ok(())
+    }
+
+    // Writes the left variables.
+    fn push_lefts(&self, out: &mut String) -> Result<(), AllocError>
+        ensures { OnOk result (string_bytes out.new ≡ string_bytes out.old ++ flat_map left_text (rule_here (B.meaning self.now.book.now).rules self.now.rule).left) }
+    {
+        push_each(out, 32, |k| {
+            let left = self.book.left(self.rule, k);
+            left.map(|v| Entry(Term::Variable(v)))
+        })
+    }
+
+    // Writes the right variables: a right variable is the first side of its pair.
+    fn push_rights(&self, out: &mut String) -> Result<(), AllocError>
+        ensures { OnOk result (string_bytes out.new ≡ string_bytes out.old ++ flat_map right_text (rule_here (B.meaning self.now.book.now).rules self.now.rule).pairs) }
+    {
+        push_each(out, 32, |k| {
+            let pair = self.book.pair(self.rule, k);
+            pair.map(|(one, _)| Entry(one))
+        })
+    }
+
+    // Writes the lines of the pairs.
+    fn push_pairs(&self, out: &mut String) -> Result<(), AllocError>
+        ensures { OnOk result (string_bytes out.new ≡ string_bytes out.old ++ flat_map pair_text (rule_here (B.meaning self.now.book.now).rules self.now.rule).pairs) }
+    {
+        push_each(out, 32, |k| {
+            let pair = self.book.pair(self.rule, k);
+            pair.map(|(one, other)| PairLine(one, other))
+        })
+    }
+
+    // Writes the lists of a functional rule.
+    fn push_sides(&self, out: &mut String) -> Result<(), AllocError>
+        ensures { OnOk result (string_bytes out.new ≡ string_bytes out.old ++ lists_text Functional (rule_here (B.meaning self.now.book.now).rules self.now.rule)) }
+    {
+        out.push_str("  left")?;
+        self.push_lefts(out)?;
+        out.push_str("\n  right")?;
+        self.push_rights(out)?;
+        out.push_str("\n")
+    }
+
+    // Writes what follows the rows of a rule of this kind.
+    fn push_lists(&self, out: &mut String, kind: Kind) -> Result<(), AllocError>
+        ensures { OnOk result (string_bytes out.new ≡ string_bytes out.old ++ lists_text kind (rule_here (B.meaning self.now.book.now).rules self.now.rule)) }
+    {
+        match kind {
+            Kind::Functional => self.push_sides(out),
+            Kind::Equality => self.push_pairs(out),
         }
     }
-}
 
-// Writes the right variable of a pair, where there is one.
-fn push_right(heap: Global, out: &mut String, pair: Option<(Term, Term)>) -> Result<(), AllocError>
-    ensures { OnOk result (string_bytes out.new ≡ string_bytes out.old ++ written right_text pair) }
-{
-    match pair {
-        None => Ok(()),
-        Some((one, _)) => push_term(heap, out, Some(one)),
-    }
-}
-
-// Writes the line of a pair, where there is one.
-fn push_pair(heap: Global, out: &mut String, pair: Option<(Term, Term)>) -> Result<(), AllocError>
-    ensures { OnOk result (string_bytes out.new ≡ string_bytes out.old ++ written pair_text pair) }
-{
-    match pair {
-        None => Ok(()),
-        Some((one, other)) => {
-            out.push_str("  pair")?;
-            push_term(heap, out, Some(one))?;
-            out.push_str(" =")?;
-            push_term(heap, out, Some(other))?;
-            out.push_str("\n")
-        }
-    }
-}
-
-// Writes the terms of a row that the rule has.
-fn push_terms<B: Book>(
-    heap: Global,
-    out: &mut String,
-    book: &B,
-    rule: usize,
-    row: usize,
-) -> Result<(), AllocError>
-    ensures { OnOk result (((terms : List Term) → row_at (B.meaning book.now).rules rule row ≡ Some terms → string_bytes out.new ≡ string_bytes out.old ++ flat_map term_text terms)) }
-{
-    for column in 0..8 {
-        push_term(heap, out, book.term(rule, row, column))?;
-    }
-    Ok(())
-}
-
-// Writes the line of a row that the rule has.
-fn push_row<B: Book>(
-    heap: Global,
-    out: &mut String,
-    book: &B,
-    rule: usize,
-    row: usize,
-) -> Result<(), AllocError>
-    ensures { OnOk result (((terms : List Term) → row_at (B.meaning book.now).rules rule row ≡ Some terms → string_bytes out.new ≡ string_bytes out.old ++ row_text terms)) }
-{
-    push_text(out, "  row")?;
-    push_terms(heap, out, book, rule, row)?;
-    push_text(out, "\n")?;
-    Ok(())
-}
-
-// Writes the left variables of a rule.
-fn push_lefts<B: Book>(
-    heap: Global,
-    out: &mut String,
-    book: &B,
-    rule: usize,
-) -> Result<(), AllocError>
-    ensures { OnOk result (((it : Rule) → slice_get (B.meaning book.now).rules rule ≡ Some it → string_bytes out.new ≡ string_bytes out.old ++ flat_map left_text it.left)) }
-{
-    for k in 0..32 {
-        push_left(heap, out, book.left(rule, k))?;
-    }
-    Ok(())
-}
-
-// Writes the right variables of a rule.
-fn push_rights<B: Book>(
-    heap: Global,
-    out: &mut String,
-    book: &B,
-    rule: usize,
-) -> Result<(), AllocError>
-    ensures { OnOk result (((it : Rule) → slice_get (B.meaning book.now).rules rule ≡ Some it → string_bytes out.new ≡ string_bytes out.old ++ flat_map right_text it.pairs)) }
-{
-    for k in 0..32 {
-        push_right(heap, out, book.pair(rule, k))?;
-    }
-    Ok(())
-}
-
-// Writes the lines of a rule's pairs.
-fn push_pairs<B: Book>(
-    heap: Global,
-    out: &mut String,
-    book: &B,
-    rule: usize,
-) -> Result<(), AllocError>
-    ensures { OnOk result (((it : Rule) → slice_get (B.meaning book.now).rules rule ≡ Some it → string_bytes out.new ≡ string_bytes out.old ++ flat_map pair_text it.pairs)) }
-{
-    for k in 0..32 {
-        push_pair(heap, out, book.pair(rule, k))?;
-    }
-    Ok(())
-}
-
-// Writes the lines of a rule's rows.
-fn push_rows<B: Book>(
-    heap: Global,
-    out: &mut String,
-    book: &B,
-    rule: usize,
-) -> Result<(), AllocError>
-    ensures { OnOk result (((it : Rule) → slice_get (B.meaning book.now).rules rule ≡ Some it → string_bytes out.new ≡ string_bytes out.old ++ flat_map row_text it.pattern)) }
-{
-    let rows = book.rows(rule).unwrap_or(0);
-    for row in 0..rows {
-        push_row(heap, out, book, rule, row)?;
-    }
-    Ok(())
-}
-
-// Writes the lists of a functional rule.
-fn push_sides<B: Book>(
-    heap: Global,
-    out: &mut String,
-    book: &B,
-    rule: usize,
-) -> Result<(), AllocError>
-    ensures { OnOk result (((it : Rule) → slice_get (B.meaning book.now).rules rule ≡ Some it → string_bytes out.new ≡ string_bytes out.old ++ lists_text Functional it)) }
-{
-    push_text(out, "  left")?;
-    push_lefts(heap, out, book, rule)?;
-    push_text(out, "\n  right")?;
-    push_rights(heap, out, book, rule)?;
-    push_text(out, "\n")?;
-    Ok(())
-}
-
-// Writes what follows the rows of a rule of this kind.
-fn push_lists<B: Book>(
-    heap: Global,
-    out: &mut String,
-    book: &B,
-    rule: usize,
-    kind: Kind,
-) -> Result<(), AllocError>
-    ensures { OnOk result (((it : Rule) → slice_get (B.meaning book.now).rules rule ≡ Some it → string_bytes out.new ≡ string_bytes out.old ++ lists_text kind it)) }
-{
-    match kind {
-        Kind::Functional => push_sides(heap, out, book, rule),
-        Kind::Equality => push_pairs(heap, out, book, rule),
-    }
-}
-
-// The end of the line that a rule of this kind begins with.
-fn kind_text(kind: Kind) -> &'static str
-    ensures { result.now ≡ kind_text kind }
-{
-    match kind {
-        Kind::Functional => "functional\n",
-        Kind::Equality => "equality\n",
-    }
-}
-
-// Writes a rule of this kind.
-fn push_rule<B: Book>(
-    heap: Global,
-    out: &mut String,
-    book: &B,
-    rule: usize,
-    kind: Kind,
-) -> Result<(), AllocError>
-    ensures { OnOk result (((it : Rule) → slice_get (B.meaning book.now).rules rule ≡ Some it → kind ≡ it.kind → string_bytes out.new ≡ string_bytes out.old ++ rule_text rule it)) }
-{
-    let head = format!(in heap; "rule {rule}: ")?;
-    push_text(out, head.as_str())?;
-    push_text(out, kind_text(kind))?;
-    push_rows(heap, out, book, rule)?;
-    push_lists(heap, out, book, rule, kind)?;
-    Ok(())
-}
-
-// Writes the rule with this number, where there is one.
-fn push_at<B: Book>(heap: Global, out: &mut String, book: &B, rule: usize) -> Result<(), AllocError>
-    ensures { OnOk result (((it : Rule) → slice_get (B.meaning book.now).rules rule ≡ Some it → string_bytes out.new ≡ string_bytes out.old ++ rule_text rule it)) }
-{
-    match book.kind(rule) {
-        None => Ok(()),
-        Some(kind) => {
-            push_rule(heap, out, book, rule, kind)?;
-            Ok(())
-        }
+    // Writes the rule.
+    fn push(&self, out: &mut String) -> Result<(), AllocError>
+        ensures { OnOk result (string_bytes out.new ≡ string_bytes out.old ++ rule_text self.now.rule (rule_here (B.meaning self.now.book.now).rules self.now.rule)) }
+    {
+        let rule = self.rule;
+        let kind = self.book.kind(rule).unwrap();
+        write!(out, "rule {rule}: {kind}\n")?;
+        self.push_rows(out)?;
+        self.push_lists(out, kind)
     }
 }
 
@@ -245,7 +127,7 @@ pub fn list_book<B: Book>(heap: Global, book: &B) -> Result<String, AllocError>
 {
     let mut out = String::new(heap);
     for rule in 0..book.count() {
-        push_at(heap, &mut out, book, rule)?;
+        Listed { book, rule }.push(&mut out)?;
     }
     Ok(out)
 }

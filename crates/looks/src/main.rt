@@ -8,8 +8,9 @@ mod sets;
 use rules::book::Book;
 use search::find::{Scratch, find_break, look_plainly};
 use search::row::Row;
+use search::spot::Spot;
 use search::table::Table;
-use sets::{RULES, Set, words_of};
+use sets::{RULES, SETS, Set, words_of};
 use sheets::sheet::Sheet;
 use std::env;
 
@@ -17,78 +18,71 @@ fn main(rt: HostRuntime) -> anyhow::Result<()> {
     run(&rt)
 }
 
-// Eight different rows: columns 0 and 7 have two numbers each, column 1 goes by column 0, column 3 has one number.
-fn eight_rows() -> [Row; 8] {
-    let mut rows = [Row { entries: [5; 8] }; 8];
-    for k in 0..8u8 {
-        let n = k as u32;
-        rows[k as usize] = Row {
-            entries: [
-                n % 2,
-                10 + n % 2,
-                n,
-                5,
-                n % 4,
-                100 + n * 3 % 8,
-                n / 2,
-                n / 2 % 2,
-            ],
-        };
+// The rows are all different: columns 0 and 7 have two numbers each, column 1 goes by column 0, column 3 has one number.
+fn row(n: u8) -> Row {
+    let n = u32::from(n);
+    Row {
+        entries: [
+            n % 2,
+            10 + n % 2,
+            n,
+            5,
+            n % 4,
+            100 + n * 3 % 8,
+            n / 2,
+            n / 2 % 2,
+        ],
     }
-    rows
 }
 
 fn run(rt: &HostRuntime) -> anyhow::Result<()> {
-    let mut plain = None;
-    let mut rules: u16 = 0;
-    for (place, word) in env::args(rt)?.into_iter().enumerate() {
-        if place == 1 {
-            plain = set_of(word.as_str());
-        }
-        if place == 2 {
-            rules = word.as_str().parse::<u16>()?;
-        }
+    let mut words = env::args(rt)?.skip(1);
+    let set = words.next().and_then(|word| set_of(word.as_str()));
+    let rules = words
+        .next()
+        .map(|word| word.as_str().parse::<u16>())
+        .transpose()?
+        .unwrap_or(0);
+    if let Some((name, set)) = set {
+        return print_set(rt, name, set, rules, |relation, sheet, rule, scratch| {
+            look_plainly(relation, sheet, rule, scratch)
+        });
     }
-    if let Some(set) = plain {
-        return print_set(rt, set, rules, true);
+    for (name, set) in SETS {
+        print_set(rt, name, set, RULES, |relation, sheet, rule, scratch| {
+            find_break(relation, sheet, rule, 1, scratch)
+        })?;
     }
-    print_set(rt, Set::Free, RULES, false)?;
-    print_set(rt, Set::Ring, RULES, false)?;
-    print_set(rt, Set::Decoys, RULES, false)?;
-    print_set(rt, Set::Groups, RULES, false)?;
-    print_set(rt, Set::Keys, RULES, false)
+    Ok(())
 }
 
-// Which set has this name.
-fn set_of(name: &str) -> Option<Set> {
-    for set in [Set::Free, Set::Ring, Set::Decoys, Set::Groups, Set::Keys] {
-        if set.name() == name {
-            return Some(set);
-        }
-    }
-    None
+// The set with this name.
+fn set_of(word: &str) -> Option<(&'static str, Set)> {
+    SETS.into_iter().find(|(name, _)| *name == word)
 }
 
-fn print_set(rt: &HostRuntime, set: Set, rules: u16, plain: bool) -> anyhow::Result<()> {
+// How many rules of a set the rows keep, when each is looked at so.
+fn print_set<F>(rt: &HostRuntime, name: &str, set: Set, rules: u16, look: F) -> anyhow::Result<()>
+where
+    F: Fn(&Table<'_>, &Sheet<'_>, usize, &mut Scratch) -> Option<Spot>,
+    requires { F.IsAlwaysCallable look }
+{
     let words = words_of(rt.alloc(), set, rules)?;
     let sheet = Sheet::open(words.as_slice());
-    let rows = eight_rows();
+    let rows = [0, 1, 2, 3, 4, 5, 6, 7].map(row);
     let relation = Table::new(&rows, 8);
     let mut scratch = Scratch::new();
-    let mut kept: u32 = 0;
+    // a loop: of a filter whose closure changes the scratch the check does not show that it may go on
+    let mut kept: usize = 0;
     for rule in 0..sheet.count() {
-        let spot = if plain {
-            look_plainly(&relation, &sheet, rule, &mut scratch)
-        } else {
-            find_break(&relation, &sheet, rule, 1, &mut scratch)
-        };
-        if spot.is_none() {
-            kept = kept.wrapping_add(1);
+        if look(&relation, &sheet, rule, &mut scratch).is_none() {
+            kept += 1;
         }
     }
-    let name = set.name();
-    let count = sheet.count();
-    let tests = scratch.tests();
-    println!(rt; "{name}: {kept} of {count} rules kept, {tests} row tests")?;
+    println!(rt;
+        "{name}: {kept} of {} rules kept, {} row tests",
+        sheet.count(),
+        scratch.tests()
+    )?;
     Ok(())
 }

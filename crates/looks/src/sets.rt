@@ -1,10 +1,9 @@
 // Sets of rules that are hard to look at, and an ordinary one, as the words of a sheet.
+use rules::term::BASE;
 use std::alloc::Global;
 
 // How many rules a set has.
 pub const RULES: u16 = 256;
-
-const BASE: u32 = 16777216;
 
 #[derive(Clone, Copy)]
 pub enum Set {
@@ -20,17 +19,16 @@ pub enum Set {
     Keys,
 }
 
-impl Set {
-    pub fn name(self) -> &'static str {
-        match self {
-            Set::Free => "free",
-            Set::Ring => "ring",
-            Set::Decoys => "decoys",
-            Set::Groups => "groups",
-            Set::Keys => "keys",
-        }
-    }
+// Each set by its name.
+pub const SETS: [(&str, Set); 5] = [
+    ("free", Set::Free),
+    ("ring", Set::Ring),
+    ("decoys", Set::Decoys),
+    ("groups", Set::Groups),
+    ("keys", Set::Keys),
+];
 
+impl Set {
     fn rows(self) -> u8 {
         match self {
             Set::Keys => 1,
@@ -79,9 +77,7 @@ impl Set {
 
 // The words of a sheet of width 8 with the first `rules` rules of the set.
 pub fn words_of(heap: Global, set: Set, rules: u16) -> anyhow::Result<Vec<u32>> {
-    let mut words = Vec::new(heap);
-    words.push(8)?;
-    words.push(rules as u32)?;
+    let mut words = vec![in heap; 8, u32::from(rules)]?;
     for rule in 0..rules {
         put_rule(&mut words, set, rule)?;
     }
@@ -89,18 +85,16 @@ pub fn words_of(heap: Global, set: Set, rules: u16) -> anyhow::Result<Vec<u32>> 
 }
 
 fn put_rule(words: &mut Vec<u32>, set: Set, rule: u16) -> anyhow::Result<()> {
-    words.push(1)?;
-    words.push(set.rows() as u32)?;
+    words.extend_from_slice(&[1, u32::from(set.rows())])?;
     for row in 0..set.rows() {
         for column in 0..8 {
             words.push(BASE.wrapping_add(set.variable(row, column)))?;
         }
     }
-    words.push(set.lefts() as u32)?;
+    words.push(u32::from(set.lefts()))?;
     for k in 0..set.lefts() {
         words.push(BASE.wrapping_add(set.left(rule, k)))?;
     }
-    words.push(1)?;
-    words.push(BASE.wrapping_add(set.right(rule)))?;
+    words.extend_from_slice(&[1, BASE.wrapping_add(set.right(rule))])?;
     Ok(())
 }

@@ -1,42 +1,43 @@
 // A line from its pieces.
-ghost use Rattle.std.specs.Prelude.{◌≡◌, ℕ, ◌<◌, ◌≤◌, List, [], ◌∷◌, ◌++◌};
+ghost use Rattle.std.specs.Prelude.{[]};
 ghost use Rattle.pieces.specs.Put.{Puts};
 ghost use Rattle.pieces.specs.Lines.{spell, line_of};
 
 use crate::output::{Output, Short};
 use crate::piece::Piece;
-use crate::put::{end_line, put_byte, put_number, put_space, put_word};
 use text::words::part_of;
 
-fn put_symbol(out: &mut Output, n: u32) -> Result<(), Short>
-    ensures { Puts out.old (spell [] (Piece.Symbol n)) result out.new }
-{
-    put_byte(out, b'$')?;
-    put_number(out, n as usize)
-}
+impl Output<'_> {
+    fn put_symbol(&mut self, n: u32) -> Result<(), Short>
+        ensures { Puts self.old (spell [] (Piece.Symbol n)) result self.new }
+    {
+        self.put_byte(b'$')?;
+        self.put_number(n as usize)
+    }
 
-fn put_piece(out: &mut Output, text: &[u8], piece: Piece) -> Result<(), Short>
-    ensures { Puts out.old (spell text.now piece) result out.new }
-{
-    match piece {
-        Piece::Fixed(w) => put_word(out, w.bytes()),
-        Piece::Number(n) => put_number(out, n),
-        Piece::Named(name) => put_word(out, part_of(text, name)),
-        Piece::Symbol(n) => put_symbol(out, n),
+    // Puts a piece down.
+    pub fn put_piece(&mut self, text: &[u8], piece: Piece) -> Result<(), Short>
+        ensures { Puts self.old (spell text.now piece) result self.new }
+    {
+        match piece {
+            Piece::Fixed(w) => self.put_word(w.bytes()),
+            Piece::Number(n) => self.put_number(n),
+            Piece::Named(name) => self.put_word(part_of(text, name)),
+            Piece::Symbol(n) => self.put_symbol(n),
+        }
     }
-}
 
-// Puts a line down: its pieces with one space between, and its end.
-pub fn put_line(out: &mut Output, text: &[u8], pieces: &[Piece]) -> Result<(), Short>
-    ensures { Puts out.old (line_of text.now pieces.now) result out.new }
-{
-    if pieces.len() == 0 {
-        return end_line(out);
+    // Puts a line down: its pieces with one space between, and its end.
+    pub fn put_line(&mut self, text: &[u8], pieces: &[Piece]) -> Result<(), Short>
+        ensures { Puts self.old (line_of text.now pieces.now) result self.new }
+    {
+        if let Some((first, others)) = pieces.split_first() {
+            self.put_piece(text, *first)?;
+            for piece in others {
+                self.put_byte(b' ')?;
+                self.put_piece(text, *piece)?;
+            }
+        }
+        self.put_byte(b'\n')
     }
-    put_piece(out, text, pieces[0])?;
-    for i in 1..pieces.len() {
-        put_space(out)?;
-        put_piece(out, text, pieces[i])?;
-    }
-    end_line(out)
 }

@@ -4,7 +4,7 @@ ghost use Rattle.pieces.specs.Table.{bytes_of, layer_word};
 
 use rules::refusal::Layer;
 
-#[derive(Clone, Copy)]
+#[derive(Clone, Copy, PartialEq, Eq, Debug)]
 pub enum Word {
     Targets,
     Target,
@@ -20,6 +20,7 @@ pub enum Word {
 }
 
 impl Word {
+    // As bytes and not as `Display`: they are put into lent places, and the caller has to know when they do not fit.
     pub fn bytes(self) -> &'static [u8]
         ensures { result.now ≡ bytes_of self }
     {
@@ -37,11 +38,13 @@ impl Word {
             Word::Report => b"report",
         }
     }
+}
 
-    // The name of a layer.
-    pub fn of_layer(layer: Layer) -> Word
-        ensures { result ≡ layer_word layer }
-    {
+// The name of a layer.
+impl From<Layer> for Word {
+    ghost from_gives = { λ layer w. w ≡ layer_word layer };
+
+    fn from(layer: Layer) -> Word {
         match layer {
             Layer::Reader => Word::Reader,
             Layer::Book => Word::Book,

@@ -1,3 +1,4 @@
 pub mod Numbered
 pub mod Goings
-pub mod Blanks
+pub mod Names
+pub mod Beginnings

@@ -1,5 +1,6 @@
 -- The format: what the next line must be, what it puts down, and what it is refused for.
 use Rattle.std.specs.Prelude.{ℕ, suc, ◌+◌, Bool, true, cond, not, ◌&&◌, ◌||◌, List, [], ◌∷◌, ◌++◌, length, replicate, Some, None, Ok, Err, codes, Option, Result, ◌==◌, nat_le, nat_lt}
+use Rattle.std.specs.List.{list_all}
 use Rattle.text.specs.Lines.{Line, clean, lines_at}
 use Rattle.text.specs.Words.{Word, words_at, bytes_of, same_word, number_in, is_variable, is_term}
 use Rattle.text.specs.Counts.{count_of}
@@ -152,12 +153,10 @@ kind_line (k ∷ []) = cond (same_word k.bytes (codes "functional")) (Ok Functio
 kind_line (k ∷ w ∷ ws) = Err Form
 
 abbrev pub all_terms : List Word → Bool
-all_terms [] = true
-all_terms (w ∷ ws) = is_term w.bytes && all_terms ws
+all_terms ws = list_all (λ w. is_term w.bytes) ws
 
 abbrev pub all_variables : List Word → Bool
-all_variables [] = true
-all_variables (w ∷ ws) = is_variable w.bytes && all_variables ws
+all_variables ws = list_all (λ w. is_variable w.bytes) ws
 
 -- as many words as are wanted, each with a word's form
 abbrev pub fits : ℕ → List Word → Bool
@@ -170,8 +169,7 @@ shaped width ws entries.Pair = fits 2 ws
 
 -- each variable is one of the rows
 abbrev pub all_known : List Word → List Word → Bool
-all_known vars [] = true
-all_known vars (w ∷ ws) = (not (is_variable w.bytes) || seen_in vars w) && all_known vars ws
+all_known vars ws = list_all (λ w. not (is_variable w.bytes) || seen_in vars w) ws
 
 abbrev pub known : List Word → List Word → Entry → Bool
 known vars ws entries.Row = true

@@ -1,168 +1,46 @@
 // The lines of keywords: a count, the kind of a rule.
-ghost use Rattle.std.specs.Prelude.{◌≡◌, ℕ, ◌+◌, ◌-◌, ◌<◌, ◌≤◌, List, [], ◌∷◌, ◌++◌, map, length, Ok, Err, MatchResult};
-ghost use Rattle.text.specs.Words.{word_in, line_words};
+ghost use Rattle.std.specs.Prelude.{◌≡◌};
 ghost use Rattle.sheets.specs.Layout.{kind_word};
 ghost use Rattle.reader.specs.Format.{keyword as key_of, least as least_of, most as most_of, count_line, put_count, kind_line, after_count, after_kind, count as counted, kind as kinded, words_line};
-ghost use Rattle.reader.specs.Held.{desk_of, held, rooms_of, Good, Sames, Answers, stepped};
+ghost use Rattle.reader.specs.Held.{held, rooms_of, words_to, Answers, stepped};
 
-use crate::desk::{Counting, Part, Work};
+use crate::desk::{Counting, Desk, Part};
 use crate::fault::Cause;
-use crate::put::put_word;
 use rules::term::Kind;
 use text::counts::parse_count;
-use text::list::Places;
-use text::words::{Name, is_term, next_in, part_of, same_word};
+use text::words::{is_term, part_of, same_word};
 
-fn keyword(counting: Counting) -> &'static [u8]
-    ensures { result.now ≡ key_of counting }
-{
-    match counting {
-        Counting::Width => b"width",
-        Counting::Rules => b"rules",
-        Counting::Targets => b"targets",
-        Counting::Rows => b"rows",
-        Counting::Left => b"left",
-        Counting::Right => b"right",
-        Counting::Pairs => b"pairs",
-    }
-}
-
-fn least(counting: Counting) -> u32
-    ensures { result ≡ least_of counting }
-{
-    match counting {
-        Counting::Width => 1,
-        Counting::Rules => 0,
-        Counting::Targets => 0,
-        Counting::Rows => 1,
-        Counting::Left => 0,
-        Counting::Right => 0,
-        Counting::Pairs => 0,
-    }
-}
-
-fn most(counting: Counting) -> u32
-    ensures { result ≡ most_of counting }
-{
-    match counting {
-        Counting::Width => 8,
-        Counting::Rules => 256,
-        Counting::Targets => 256,
-        Counting::Rows => 4,
-        Counting::Left => 32,
-        Counting::Right => 32,
-        Counting::Pairs => 32,
-    }
-}
-
-// The count of a line that is a keyword and a count.
-fn count_line(text: &[u8], from: usize, end: usize, counting: Counting) -> Result<u32, Cause>
-    ensures { result ≡ count_line counting (line_words text.now from end) }
-{
-    let Some(k) = next_in(text, from, end) else {
-        return Err(Cause::Form);
-    };
-    let Some(n) = next_in(text, k.place + k.length, end) else {
-        return Err(Cause::Form);
-    };
-    if let Some(_) = next_in(text, n.place + n.length, end) {
-        return Err(Cause::Form);
-    }
-    let word = part_of(text, n);
-    if !same_word(part_of(text, k), keyword(counting)) || !is_term(word) {
-        return Err(Cause::Form);
-    }
-    match parse_count(word, least(counting), most(counting)) {
-        Some(n) => Ok(n),
-        None => Err(Cause::Count),
-    }
-}
-
-// Puts a count down, with what goes before it.
-fn put_count(
-    text: &[u8],
-    rules: &mut Places<u32>,
-    targets: &mut Places<u32>,
-    names: &mut Places<Name>,
-    work: &mut Work,
-    counting: Counting,
-    n: u32,
-) -> Result<(), Cause>
-    requires { Good text.now (desk_of rules.old targets.old names.old work.old) }
-    ensures good { Good text.now (desk_of rules.new targets.new names.new work.new) }
-    ensures same { Sames (desk_of rules.old targets.old names.old work.old) (desk_of rules.new targets.new names.new work.new) }
-    ensures cases { Answers result
-        (put_count (rooms_of (desk_of rules.old targets.old names.old work.old)) (held text.now (desk_of rules.old targets.old names.old work.old)) n counting)
-        (λ _. held text.now (desk_of rules.new targets.new names.new work.new)) }
-{
-    match counting {
-        Counting::Width => {
-            work.width = n;
-            put_word(text, rules, targets, names, work, n)
+impl Counting {
+    // The word that its line begins with: as bytes and not as `Display`, since a part of the text is held against it.
+    fn keyword(self) -> &'static [u8]
+        ensures { result.now ≡ key_of self }
+    {
+        match self {
+            Counting::Width => b"width",
+            Counting::Rules => b"rules",
+            Counting::Targets => b"targets",
+            Counting::Rows => b"rows",
+            Counting::Left => b"left",
+            Counting::Right => b"right",
+            Counting::Pairs => b"pairs",
         }
-        Counting::Rules => put_word(text, rules, targets, names, work, n),
-        Counting::Targets => {
-            work.part = Part::Targets;
-            let width = work.width;
-            put_word(text, rules, targets, names, work, width)?;
-            put_word(text, rules, targets, names, work, n)
-        }
-        Counting::Rows => {
-            work.vars.used = 0;
-            put_word(text, rules, targets, names, work, n)
-        }
-        Counting::Left => put_word(text, rules, targets, names, work, n),
-        Counting::Right => put_word(text, rules, targets, names, work, n),
-        Counting::Pairs => {
-            put_word(text, rules, targets, names, work, 0)?;
-            put_word(text, rules, targets, names, work, n)
+    }
+
+    // The least and the most that there may be.
+    fn range(self) -> (u32, u32)
+        ensures least { result.0 ≡ least_of self }
+        ensures most { result.1 ≡ most_of self }
+    {
+        match self {
+            Counting::Width => (1, 8),
+            Counting::Rules | Counting::Targets => (0, 256),
+            Counting::Rows => (1, 4),
+            Counting::Left | Counting::Right | Counting::Pairs => (0, 32),
         }
     }
 }
 
-// Takes the words of a line with a count.
-pub(crate) fn count_words(
-    text: &[u8],
-    from: usize,
-    end: usize,
-    rules: &mut Places<u32>,
-    targets: &mut Places<u32>,
-    names: &mut Places<Name>,
-    work: &mut Work,
-    counting: Counting,
-) -> Result<u32, Cause>
-    requires { Good text.now (desk_of rules.old targets.old names.old work.old) }
-    ensures good { Good text.now (desk_of rules.new targets.new names.new work.new) }
-    ensures same { Sames (desk_of rules.old targets.old names.old work.old) (desk_of rules.new targets.new names.new work.new) }
-    ensures cases { Answers result
-        (words_line (rooms_of (desk_of rules.old targets.old names.old work.old)) (held text.now (desk_of rules.old targets.old names.old work.old)) (line_words text.now from end) (counted counting))
-        (λ n. stepped (after_count counting n) (held text.now (desk_of rules.new targets.new names.new work.new))) }
-{
-    let n = count_line(text, from, end, counting)?;
-    put_count(text, rules, targets, names, work, counting, n)?;
-    Ok(n)
-}
-
-// The kind that a line of one word says.
-fn kind_line(text: &[u8], from: usize, end: usize) -> Result<Kind, Cause>
-    ensures { result ≡ kind_line (line_words text.now from end) }
-{
-    let Some(k) = next_in(text, from, end) else {
-        return Err(Cause::Form);
-    };
-    if let Some(_) = next_in(text, k.place + k.length, end) {
-        return Err(Cause::Form);
-    }
-    let word = part_of(text, k);
-    if same_word(word, b"functional") {
-        return Ok(Kind::Functional);
-    }
-    if same_word(word, b"equality") {
-        return Ok(Kind::Equality);
-    }
-    Err(Cause::Form)
-}
-
+// The word of a sheet for a kind: a function and no `From`, since neither type is of this crate.
 fn kind_word(kind: Kind) -> u32
     ensures { result ≡ kind_word kind }
 {
@@ -172,24 +50,75 @@ fn kind_word(kind: Kind) -> u32
     }
 }
 
-// Takes the words of a line with a rule's kind.
-pub(crate) fn kind_words(
-    text: &[u8],
-    from: usize,
-    end: usize,
-    rules: &mut Places<u32>,
-    targets: &mut Places<u32>,
-    names: &mut Places<Name>,
-    work: &mut Work,
-) -> Result<Kind, Cause>
-    requires { Good text.now (desk_of rules.old targets.old names.old work.old) }
-    ensures good { Good text.now (desk_of rules.new targets.new names.new work.new) }
-    ensures same { Sames (desk_of rules.old targets.old names.old work.old) (desk_of rules.new targets.new names.new work.new) }
-    ensures cases { Answers result
-        (words_line (rooms_of (desk_of rules.old targets.old names.old work.old)) (held text.now (desk_of rules.old targets.old names.old work.old)) (line_words text.now from end) kinded)
-        (λ k. stepped (after_kind k) (held text.now (desk_of rules.new targets.new names.new work.new))) }
-{
-    let kind = kind_line(text, from, end)?;
-    put_word(text, rules, targets, names, work, kind_word(kind))?;
-    Ok(kind)
+impl Desk<'_, '_, '_, '_, '_> {
+    // The count of a line that is a keyword and a count.
+    fn count_line(&self, end: usize, counting: Counting) -> Result<u32, Cause>
+        ensures { result ≡ count_line counting (words_to self.now end) }
+    {
+        let mut words = self.words(end);
+        let key = part_of(self.text, words.next().ok_or(Cause::Form)?);
+        let number = part_of(self.text, words.next().ok_or(Cause::Form)?);
+        if words.next().is_some() || !same_word(key, counting.keyword()) || !is_term(number) {
+            return Err(Cause::Form);
+        }
+        let (least, most) = counting.range();
+        parse_count(number, least, most).ok_or(Cause::Count)
+    }
+
+    // Puts a count down, with what goes before it.
+    fn put_count(&mut self, counting: Counting, n: u32) -> Result<(), Cause>
+        ensures { Answers result self.old self.new (put_count (rooms_of self.old) (held self.old) n counting) (λ _. held self.new) }
+    {
+        match counting {
+            Counting::Width => self.width = n,
+            Counting::Targets => {
+                self.part = Part::Targets;
+                self.put_word(self.width)?;
+            }
+            Counting::Rows => self.vars.used = 0,
+            Counting::Pairs => self.put_word(0)?,
+            Counting::Rules | Counting::Left | Counting::Right => {}
+        }
+        self.put_word(n)
+    }
+
+    // Takes the words of a line with a count.
+    pub(crate) fn count_words(&mut self, end: usize, counting: Counting) -> Result<u32, Cause>
+        ensures { Answers result self.old self.new
+            (words_line (rooms_of self.old) (held self.old) (words_to self.old end) (counted counting))
+            (λ n. stepped (after_count counting n) (held self.new)) }
+    {
+        let n = self.count_line(end, counting)?;
+        self.put_count(counting, n)?;
+        Ok(n)
+    }
+
+    // The kind that a line of one word says.
+    fn kind_line(&self, end: usize) -> Result<Kind, Cause>
+        ensures { result ≡ kind_line (words_to self.now end) }
+    {
+        let mut words = self.words(end);
+        let word = part_of(self.text, words.next().ok_or(Cause::Form)?);
+        if words.next().is_some() {
+            return Err(Cause::Form);
+        }
+        if same_word(word, b"functional") {
+            return Ok(Kind::Functional);
+        }
+        if same_word(word, b"equality") {
+            return Ok(Kind::Equality);
+        }
+        Err(Cause::Form)
+    }
+
+    // Takes the words of a line with a rule's kind.
+    pub(crate) fn kind_words(&mut self, end: usize) -> Result<Kind, Cause>
+        ensures { Answers result self.old self.new
+            (words_line (rooms_of self.old) (held self.old) (words_to self.old end) kinded)
+            (λ k. stepped (after_kind k) (held self.new)) }
+    {
+        let kind = self.kind_line(end)?;
+        self.put_word(kind_word(kind))?;
+        Ok(kind)
+    }
 }

@@ -2,7 +2,7 @@
 
 #[derive(Clone, Copy, PartialEq, Eq, Debug)]
 pub enum Cause {
-    Byte,
+    Byte = 1,
     Form,
     Count,
     Unknown,

@@ -5,6 +5,7 @@ mod count;
 pub mod desk;
 mod entry;
 pub mod fault;
+mod lent;
 mod put;
 mod read;
 pub mod reader;

@@ -1,17 +1,18 @@
 // Words are put down.
-ghost use Rattle.std.specs.Prelude.{◌≡◌, ℕ, ◌+◌, ◌-◌, ◌<◌, ◌≤◌, List, [], ◌∷◌, ◌++◌, map, length, Ok, Err, MatchResult};
+ghost use Rattle.std.specs.Prelude.{◌≡◌, ◌≤◌, map, MatchResult};
+ghost use Rattle.std.specs.List.{AllByRecursion};
 ghost use Rattle.text.specs.Filled.{items, room, Same};
-ghost use Rattle.text.specs.Words.{word_in, line_words};
-ghost use Rattle.reader.specs.Format.{places, pushed, number_of, seen_with, put_word, put_term, put_terms};
-ghost use Rattle.reader.specs.Held.{desk_of, words_in, Inside, held, rooms_of, Within, Fine, Good, Sames, Answers};
+ghost use Rattle.text.specs.Words.{word_in};
+ghost use Rattle.reader.specs.Format.{places, number_of, seen_with, put_word, put_term, put_terms};
+ghost use Rattle.reader.specs.Lists.{words_in, Inside, Within};
+ghost use Rattle.reader.specs.Held.{held, rooms_of, words_to, Answers};
 
-use crate::desk::{Part, Work};
+use crate::desk::{Desk, Part};
 use crate::fault::Cause;
+use rules::term::BASE;
+use text::line_words::Words;
 use text::list::{Places, push};
-use text::words::{Name, is_variable, next_in, number_in, part_of};
-
-// Variable v is the word VARIABLE + v.
-const VARIABLE: u32 = 16_777_216;
+use text::words::{Name, is_variable, number_in, part_of};
 
 // How many words of the list, from the first on, are other words.
 pub(crate) fn find(text: &[u8], list: &Places<Name>, w: Name) -> usize
@@ -25,108 +26,63 @@ pub(crate) fn find(text: &[u8], list: &Places<Name>, w: Name) -> usize
 // The number of a word by first appearance; a new word goes to the end of the list.
 fn intern(text: &[u8], list: &mut Places<Name>, w: Name) -> Result<u32, Cause>
     requires word { Inside text.now w }
-    requires fine { Fine text.now list.old }
+    requires within { Within list.old }
+    requires inside { AllByRecursion (Inside text.now) (items list.old) }
     ensures same { Same list.old list.new }
-    ensures fine { Fine text.now list.new }
+    ensures within { Within list.new }
+    ensures inside { AllByRecursion (Inside text.now) (items list.new) }
     ensures cases { MatchResult result
         (λ k. (k ≡ number_of (words_in text.now (items list.old)) (word_in text.now w)) × (k ≤ 4096)
         × (seen_with (places (room list.old)) (words_in text.now (items list.old)) (word_in text.now w) ≡ Ok (words_in text.now (items list.new))))
         (λ e. seen_with (places (room list.old)) (words_in text.now (items list.old)) (word_in text.now w) ≡ Err e) }
 {
-    let used = list.used;
     let k = find(text, list, w);
-    if k < used {
-        return Ok(k as u32);
+    if k == list.used {
+        push(list, w)?;
     }
-    match push(list, w) {
-        Ok(()) => Ok(k as u32),
-        Err(_) => Err(Cause::Room),
-    }
+    Ok(k as u32)
 }
 
-// Puts a word into a sheet.
-fn put_in(sheet: &mut Places<u32>, x: u32) -> Result<(), Cause>
-    requires { Within sheet.old }
-    ensures same { Same sheet.old sheet.new }
-    ensures within { Within sheet.new }
-    ensures cases { MatchResult result
-        (λ _. pushed (places (room sheet.old)) (items sheet.old) x ≡ Ok (items sheet.new))
-        (λ e. pushed (places (room sheet.old)) (items sheet.old) x ≡ Err e) }
-{
-    match push(sheet, x) {
-        Ok(()) => Ok(()),
-        Err(_) => Err(Cause::Room),
+impl<'d> Desk<'d, '_, '_, '_, '_> {
+    // The words of the line up to `end`.
+    pub(crate) fn words(&self, end: usize) -> Words<'d>
+        ensures words { map (word_in self.now.text.now) result ≡ words_to self.now end }
+        ensures inside { AllByRecursion (Inside self.now.text.now) result }
+    {
+        Words::of_line(self.text, self.at.from, end)
     }
-}
 
-// Puts a word into the sheet that is being filled.
-pub(crate) fn put_word(
-    text: &[u8],
-    rules: &mut Places<u32>,
-    targets: &mut Places<u32>,
-    names: &mut Places<Name>,
-    work: &mut Work,
-    x: u32,
-) -> Result<(), Cause>
-    requires { Good text.now (desk_of rules.old targets.old names.old work.old) }
-    ensures good { Good text.now (desk_of rules.new targets.new names.new work.new) }
-    ensures same { Sames (desk_of rules.old targets.old names.old work.old) (desk_of rules.new targets.new names.new work.new) }
-    ensures cases { Answers result
-        (put_word (rooms_of (desk_of rules.old targets.old names.old work.old)) (held text.now (desk_of rules.old targets.old names.old work.old)) x)
-        (λ _. held text.now (desk_of rules.new targets.new names.new work.new)) }
-{
-    match work.part {
-        Part::Rules => put_in(rules, x),
-        Part::Targets => put_in(targets, x),
+    // Puts a word into the sheet that is being filled.
+    pub(crate) fn put_word(&mut self, x: u32) -> Result<(), Cause>
+        ensures { Answers result self.old self.new (put_word (rooms_of self.old) (held self.old) x) (λ _. held self.new) }
+    {
+        match self.part {
+            Part::Rules => push(self.rules, x)?,
+            Part::Targets => push(self.targets, x)?,
+        }
+        Ok(())
     }
-}
 
-// Puts down a word of a row, a list or a pair.
-fn put_term(
-    text: &[u8],
-    rules: &mut Places<u32>,
-    targets: &mut Places<u32>,
-    names: &mut Places<Name>,
-    work: &mut Work,
-    w: Name,
-) -> Result<(), Cause>
-    requires word { Inside text.now w }
-    requires good { Good text.now (desk_of rules.old targets.old names.old work.old) }
-    ensures good { Good text.now (desk_of rules.new targets.new names.new work.new) }
-    ensures same { Sames (desk_of rules.old targets.old names.old work.old) (desk_of rules.new targets.new names.new work.new) }
-    ensures cases { Answers result
-        (put_term (rooms_of (desk_of rules.old targets.old names.old work.old)) (held text.now (desk_of rules.old targets.old names.old work.old)) (word_in text.now w))
-        (λ _. held text.now (desk_of rules.new targets.new names.new work.new)) }
-{
-    if is_variable(part_of(text, w)) {
-        let k = intern(text, &mut work.vars, w)?;
-        return put_word(text, rules, targets, names, work, VARIABLE + k);
+    // Puts down a word of a row, a list or a pair.
+    fn put_term(&mut self, w: Name) -> Result<(), Cause>
+        requires { Inside self.old.text.now w }
+        ensures { Answers result self.old self.new (put_term (rooms_of self.old) (held self.old) (word_in self.old.text.now w)) (λ _. held self.new) }
+    {
+        if is_variable(part_of(self.text, w)) {
+            let k = intern(self.text, self.vars, w)?;
+            return self.put_word(BASE + k);
+        }
+        let n = intern(self.text, self.names, w)?;
+        self.put_word(n)
     }
-    let n = intern(text, names, w)?;
-    put_word(text, rules, targets, names, work, n)
-}
 
-// Puts down each word of the line from `from` up to `end`.
-pub(crate) fn put_terms(
-    text: &[u8],
-    from: usize,
-    end: usize,
-    rules: &mut Places<u32>,
-    targets: &mut Places<u32>,
-    names: &mut Places<Name>,
-    work: &mut Work,
-) -> Result<(), Cause>
-    requires { Good text.now (desk_of rules.old targets.old names.old work.old) }
-    ensures good { Good text.now (desk_of rules.new targets.new names.new work.new) }
-    ensures same { Sames (desk_of rules.old targets.old names.old work.old) (desk_of rules.new targets.new names.new work.new) }
-    ensures cases { Answers result
-        (put_terms (rooms_of (desk_of rules.old targets.old names.old work.old)) (held text.now (desk_of rules.old targets.old names.old work.old)) (line_words text.now from end))
-        (λ _. held text.now (desk_of rules.new targets.new names.new work.new)) }
-{
-    let mut at = from;
-    while let Some(w) = next_in(text, at, end) {
-        put_term(text, rules, targets, names, work, w)?;
-        at = w.place + w.length;
+    // Puts down each word of the line up to `end`.
+    pub(crate) fn put_terms(&mut self, end: usize) -> Result<(), Cause>
+        ensures { Answers result self.old self.new (put_terms (rooms_of self.old) (held self.old) (words_to self.old end)) (λ _. held self.new) }
+    {
+        for w in self.words(end) {
+            self.put_term(w)?;
+        }
+        Ok(())
     }
-    Ok(())
 }

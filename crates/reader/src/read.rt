@@ -1,317 +1,145 @@
 // The lines in their order.
-ghost use Rattle.std.specs.Prelude.{◌≡◌, ℕ, suc, ◌+◌, ◌-◌, ◌<◌, ◌≤◌, true, List, [], ◌∷◌, ◌++◌, map, length, replicate, Ok, Err, MatchResult};
+ghost use Rattle.std.specs.Prelude.{◌≡◌, ℕ, ◌+◌, ◌≤◌, true, List, [], ◌∷◌, length, replicate, MatchResult};
 ghost use Rattle.text.specs.Lines.{lines_from, line_at, clean};
-ghost use Rattle.reader.specs.Format.{Rooms, Memo, Due, read_lines, after_count, after_kind, count as counting-line, kind as kind-line, entry as entry-line, whole_text};
-ghost use Rattle.reader.specs.Held.{desk_of, held, rooms_of, Good, Sames};
-ghost use Rattle.reader.specs.Goes.{going, Takes, Stands};
+ghost use Rattle.reader.specs.Format.{Rooms, Memo, Due, read_lines, after_count, after_kind, count as counting_line, kind as kind_line, entry as entry_line, whole_text};
+ghost use Rattle.reader.specs.Held.{held, rooms_of, Sames};
+ghost use Rattle.reader.specs.Goes.{going, Takes};
 
-use crate::count::{count_words, kind_words};
-use crate::desk::{Counting, Cursor, Entry, Work};
-use crate::entry::entry_words;
+use crate::desk::{Counting, Cursor, Desk, Entry};
 use crate::fault::{Cause, ReadFault};
 use rules::term::Kind;
 use text::lines::{line_clean, line_end};
-use text::list::Places;
-use text::words::Name;
 
-// Where the line at the cursor ends: there is one, and it has no other bytes than a line may have.
-fn open_line(text: &[u8], at: Cursor) -> Result<usize, ReadFault>
-    requires { Stands text.now at }
-    ensures { MatchResult result
-        (λ end. (at.from ≤ end) × (end ≤ length text.now) × (clean (line_at text.now at.from end).bytes ≡ true)
-        × (lines_from text.now at.from ≡ line_at text.now at.from end ∷ lines_from text.now (end + 1)))
-        (λ e. (rooms : Rooms) (m : Memo) (d : Due) (ds : List Due) → read_lines rooms at.line (d ∷ ds) m (lines_from text.now at.from) ≡ Err e) }
-{
-    if at.from >= text.len() {
-        return Err(ReadFault {
-            cause: Cause::Lines,
-            line: at.line,
-        });
-    }
-    let end = line_end(text, at.from);
-    if !line_clean(text, at.from, end) {
-        return Err(ReadFault {
-            cause: Cause::Byte,
-            line: at.line,
-        });
-    }
-    Ok(end)
-}
-
-// Takes a line with a count.
-fn take_count(
-    text: &[u8],
-    at: &mut Cursor,
-    rules: &mut Places<u32>,
-    targets: &mut Places<u32>,
-    names: &mut Places<Name>,
-    work: &mut Work,
-    counting: Counting,
-) -> Result<u32, ReadFault>
-    requires short { length text.now ≤ 65536 }
-    requires stands { Stands text.now at.old }
-    requires good { Good text.now (desk_of rules.old targets.old names.old work.old) }
-    ensures stands { Stands text.now at.new }
-    ensures good { Good text.now (desk_of rules.new targets.new names.new work.new) }
-    ensures same { Sames (desk_of rules.old targets.old names.old work.old) (desk_of rules.new targets.new names.new work.new) }
-    ensures takes { Takes result text.now at.old (desk_of rules.old targets.old names.old work.old) at.new (desk_of rules.new targets.new names.new work.new) (counting-line counting ∷ []) (after_count counting) }
-{
-    let end = open_line(text, *at)?;
-    match count_words(text, at.from, end, rules, targets, names, work, counting) {
-        Ok(n) => {
-            at.from = end + 1;
-            at.line += 1;
-            Ok(n)
-        }
-        Err(cause) => Err(ReadFault {
+impl Cursor {
+    // The fault of the line here.
+    fn fault(self, cause: Cause) -> ReadFault
+        ensures { result ≡ record { cause = cause; line = self.line } }
+    {
+        ReadFault {
             cause,
-            line: at.line,
-        }),
-    }
-}
-
-// Takes a line with a rule's kind.
-fn take_kind(
-    text: &[u8],
-    at: &mut Cursor,
-    rules: &mut Places<u32>,
-    targets: &mut Places<u32>,
-    names: &mut Places<Name>,
-    work: &mut Work,
-) -> Result<Kind, ReadFault>
-    requires short { length text.now ≤ 65536 }
-    requires stands { Stands text.now at.old }
-    requires good { Good text.now (desk_of rules.old targets.old names.old work.old) }
-    ensures stands { Stands text.now at.new }
-    ensures good { Good text.now (desk_of rules.new targets.new names.new work.new) }
-    ensures same { Sames (desk_of rules.old targets.old names.old work.old) (desk_of rules.new targets.new names.new work.new) }
-    ensures takes { Takes result text.now at.old (desk_of rules.old targets.old names.old work.old) at.new (desk_of rules.new targets.new names.new work.new) (kind-line ∷ []) after_kind }
-{
-    let end = open_line(text, *at)?;
-    match kind_words(text, at.from, end, rules, targets, names, work) {
-        Ok(kind) => {
-            at.from = end + 1;
-            at.line += 1;
-            Ok(kind)
-        }
-        Err(cause) => Err(ReadFault {
-            cause,
-            line: at.line,
-        }),
-    }
-}
-
-// Takes a line with words of a rule.
-fn take_entry(
-    text: &[u8],
-    at: &mut Cursor,
-    rules: &mut Places<u32>,
-    targets: &mut Places<u32>,
-    names: &mut Places<Name>,
-    work: &mut Work,
-    form: Entry,
-) -> Result<(), ReadFault>
-    requires short { length text.now ≤ 65536 }
-    requires stands { Stands text.now at.old }
-    requires good { Good text.now (desk_of rules.old targets.old names.old work.old) }
-    ensures stands { Stands text.now at.new }
-    ensures good { Good text.now (desk_of rules.new targets.new names.new work.new) }
-    ensures same { Sames (desk_of rules.old targets.old names.old work.old) (desk_of rules.new targets.new names.new work.new) }
-    ensures takes { Takes result text.now at.old (desk_of rules.old targets.old names.old work.old) at.new (desk_of rules.new targets.new names.new work.new) (entry-line form ∷ []) (λ _. []) }
-{
-    let end = open_line(text, *at)?;
-    match entry_words(text, at.from, end, rules, targets, names, work, form) {
-        Ok(()) => {
-            at.from = end + 1;
-            at.line += 1;
-            Ok(())
-        }
-        Err(cause) => Err(ReadFault {
-            cause,
-            line: at.line,
-        }),
-    }
-}
-
-// Takes as many such lines.
-fn take_entries(
-    text: &[u8],
-    at: &mut Cursor,
-    rules: &mut Places<u32>,
-    targets: &mut Places<u32>,
-    names: &mut Places<Name>,
-    work: &mut Work,
-    form: Entry,
-    many: u32,
-) -> Result<(), ReadFault>
-    requires short { length text.now ≤ 65536 }
-    requires stands { Stands text.now at.old }
-    requires good { Good text.now (desk_of rules.old targets.old names.old work.old) }
-    ensures stands { Stands text.now at.new }
-    ensures good { Good text.now (desk_of rules.new targets.new names.new work.new) }
-    ensures same { Sames (desk_of rules.old targets.old names.old work.old) (desk_of rules.new targets.new names.new work.new) }
-    ensures takes { Takes result text.now at.old (desk_of rules.old targets.old names.old work.old) at.new (desk_of rules.new targets.new names.new work.new) (replicate many (entry-line form)) (λ _. []) }
-{
-    let mut left = many;
-    while left > 0 {
-        take_entry(text, at, rules, targets, names, work, form)?;
-        left -= 1;
-    }
-    Ok(())
-}
-
-// Takes a count and the lines that it counts.
-fn take_list(
-    text: &[u8],
-    at: &mut Cursor,
-    rules: &mut Places<u32>,
-    targets: &mut Places<u32>,
-    names: &mut Places<Name>,
-    work: &mut Work,
-    counting: Counting,
-    form: Entry,
-) -> Result<(), ReadFault>
-    requires short { length text.now ≤ 65536 }
-    requires stands { Stands text.now at.old }
-    requires good { Good text.now (desk_of rules.old targets.old names.old work.old) }
-    requires counts { (n : ℕ) → after_count counting n ≡ replicate n (entry-line form) }
-    ensures stands { Stands text.now at.new }
-    ensures good { Good text.now (desk_of rules.new targets.new names.new work.new) }
-    ensures same { Sames (desk_of rules.old targets.old names.old work.old) (desk_of rules.new targets.new names.new work.new) }
-    ensures takes { Takes result text.now at.old (desk_of rules.old targets.old names.old work.old) at.new (desk_of rules.new targets.new names.new work.new) (counting-line counting ∷ []) (λ _. []) }
-{
-    let many = take_count(text, at, rules, targets, names, work, counting)?;
-    take_entries(text, at, rules, targets, names, work, form, many)
-}
-
-// Takes the lines of a rule.
-fn take_rule(
-    text: &[u8],
-    at: &mut Cursor,
-    rules: &mut Places<u32>,
-    targets: &mut Places<u32>,
-    names: &mut Places<Name>,
-    work: &mut Work,
-) -> Result<(), ReadFault>
-    requires short { length text.now ≤ 65536 }
-    requires stands { Stands text.now at.old }
-    requires good { Good text.now (desk_of rules.old targets.old names.old work.old) }
-    ensures stands { Stands text.now at.new }
-    ensures good { Good text.now (desk_of rules.new targets.new names.new work.new) }
-    ensures same { Sames (desk_of rules.old targets.old names.old work.old) (desk_of rules.new targets.new names.new work.new) }
-    ensures takes { Takes result text.now at.old (desk_of rules.old targets.old names.old work.old) at.new (desk_of rules.new targets.new names.new work.new) (kind-line ∷ []) (λ _. []) }
-{
-    match take_kind(text, at, rules, targets, names, work)? {
-        Kind::Functional => {
-            take_list(
-                text,
-                at,
-                rules,
-                targets,
-                names,
-                work,
-                Counting::Rows,
-                Entry::Row,
-            )?;
-            take_list(
-                text,
-                at,
-                rules,
-                targets,
-                names,
-                work,
-                Counting::Left,
-                Entry::Variable,
-            )?;
-            take_list(
-                text,
-                at,
-                rules,
-                targets,
-                names,
-                work,
-                Counting::Right,
-                Entry::Variable,
-            )
-        }
-        Kind::Equality => {
-            take_list(
-                text,
-                at,
-                rules,
-                targets,
-                names,
-                work,
-                Counting::Rows,
-                Entry::Row,
-            )?;
-            take_list(
-                text,
-                at,
-                rules,
-                targets,
-                names,
-                work,
-                Counting::Pairs,
-                Entry::Pair,
-            )
+            line: self.line,
         }
     }
 }
 
-// Takes a count and the rules that it counts.
-fn take_rules(
-    text: &[u8],
-    at: &mut Cursor,
-    rules: &mut Places<u32>,
-    targets: &mut Places<u32>,
-    names: &mut Places<Name>,
-    work: &mut Work,
-    counting: Counting,
-) -> Result<(), ReadFault>
-    requires short { length text.now ≤ 65536 }
-    requires stands { Stands text.now at.old }
-    requires good { Good text.now (desk_of rules.old targets.old names.old work.old) }
-    requires counts { (n : ℕ) → after_count counting n ≡ replicate n kind-line }
-    ensures stands { Stands text.now at.new }
-    ensures good { Good text.now (desk_of rules.new targets.new names.new work.new) }
-    ensures same { Sames (desk_of rules.old targets.old names.old work.old) (desk_of rules.new targets.new names.new work.new) }
-    ensures takes { Takes result text.now at.old (desk_of rules.old targets.old names.old work.old) at.new (desk_of rules.new targets.new names.new work.new) (counting-line counting ∷ []) (λ _. []) }
-{
-    let mut left = take_count(text, at, rules, targets, names, work, counting)?;
-    while left > 0 {
-        take_rule(text, at, rules, targets, names, work)?;
-        left -= 1;
+impl Desk<'_, '_, '_, '_, '_> {
+    // Where the line at the cursor ends: there is one, and it has no other bytes than a line may have.
+    fn open_line(&self) -> Result<usize, ReadFault>
+        ensures { MatchResult result
+            (λ end. (self.now.at.from ≤ end) × (end ≤ length self.now.text.now) × (clean (line_at self.now.text.now self.now.at.from end).bytes ≡ true)
+            × (lines_from self.now.text.now self.now.at.from ≡ line_at self.now.text.now self.now.at.from end ∷ lines_from self.now.text.now (end + 1)))
+            (λ e. (rooms : Rooms) (m : Memo) (d : Due) (ds : List Due) → read_lines rooms self.now.at.line (d ∷ ds) m (lines_from self.now.text.now self.now.at.from) ≡ Err e) }
+    {
+        if self.at.from >= self.text.len() {
+            return Err(self.at.fault(Cause::Lines));
+        }
+        let end = line_end(self.text, self.at.from);
+        if !line_clean(self.text, self.at.from, end) {
+            return Err(self.at.fault(Cause::Byte));
+        }
+        Ok(end)
     }
-    Ok(())
-}
 
-// Takes all lines; none may follow.
-pub(crate) fn take_text(
-    text: &[u8],
-    at: &mut Cursor,
-    rules: &mut Places<u32>,
-    targets: &mut Places<u32>,
-    names: &mut Places<Name>,
-    work: &mut Work,
-) -> Result<(), ReadFault>
-    requires short { length text.now ≤ 65536 }
-    requires stands { Stands text.now at.old }
-    requires good { Good text.now (desk_of rules.old targets.old names.old work.old) }
-    ensures good { Good text.now (desk_of rules.new targets.new names.new work.new) }
-    ensures same { Sames (desk_of rules.old targets.old names.old work.old) (desk_of rules.new targets.new names.new work.new) }
-    ensures cases { MatchResult result
-        (λ _. going text.now (rooms_of (desk_of rules.old targets.old names.old work.old)) at.old (desk_of rules.old targets.old names.old work.old) whole_text ≡ Ok (held text.now (desk_of rules.new targets.new names.new work.new)))
-        (λ e. going text.now (rooms_of (desk_of rules.old targets.old names.old work.old)) at.old (desk_of rules.old targets.old names.old work.old) whole_text ≡ Err e) }
-{
-    take_count(text, at, rules, targets, names, work, Counting::Width)?;
-    take_rules(text, at, rules, targets, names, work, Counting::Rules)?;
-    take_rules(text, at, rules, targets, names, work, Counting::Targets)?;
-    if at.from < text.len() {
-        return Err(ReadFault {
-            cause: Cause::Lines,
-            line: at.line,
-        });
+    // Steps on past the line that ends at `end`, or tells where its words are refused.
+    fn close_line<T>(&mut self, end: usize, taken: Result<T, Cause>) -> Result<T, ReadFault>
+        requires from { self.old.at.from ≤ end }
+        requires inside { end ≤ length self.old.text.now }
+        ensures same { Sames self.old self.new }
+        ensures held { held self.new ≡ held self.old }
+        ensures cases { MatchResult result
+            (λ x. (taken ≡ Ok x) × (self.new.at.from ≡ end + 1) × (self.new.at.line ≡ self.old.at.line + 1))
+            (λ e. (taken ≡ Err e.cause) × (e.line ≡ self.old.at.line)) }
+    {
+        let at = self.at;
+        let taken = taken.map_err(|cause| at.fault(cause))?;
+        self.at = Cursor {
+            from: end + 1,
+            line: at.line + 1,
+        };
+        Ok(taken)
     }
-    Ok(())
+
+    // Takes a line with a count. Lines with a kind and with words of a rule are taken alike but for one call: one function for
+    // the three takes a closure over the desk, which gets no proof, as at take_rules.
+    fn take_count(&mut self, counting: Counting) -> Result<u32, ReadFault>
+        ensures { Takes result self.old self.new (counting_line counting ∷ []) (after_count counting) }
+    {
+        let end = self.open_line()?;
+        let taken = self.count_words(end, counting);
+        self.close_line(end, taken)
+    }
+
+    // Takes a line with a rule's kind.
+    fn take_kind(&mut self) -> Result<Kind, ReadFault>
+        ensures { Takes result self.old self.new (kind_line ∷ []) after_kind }
+    {
+        let end = self.open_line()?;
+        let taken = self.kind_words(end);
+        self.close_line(end, taken)
+    }
+
+    // Takes a line with words of a rule.
+    fn take_entry(&mut self, form: Entry) -> Result<(), ReadFault>
+        ensures { Takes result self.old self.new (entry_line form ∷ []) (λ _. []) }
+    {
+        let end = self.open_line()?;
+        let taken = self.entry_words(end, form);
+        self.close_line(end, taken)
+    }
+
+    // Takes a count and the lines that it counts.
+    fn take_list(&mut self, counting: Counting, form: Entry) -> Result<(), ReadFault>
+        requires counts { (n : ℕ) → after_count counting n ≡ replicate n (entry_line form) }
+        ensures { Takes result self.old self.new (counting_line counting ∷ []) (λ _. []) }
+    {
+        let many = self.take_count(counting)?;
+        for _ in 0..many {
+            self.take_entry(form)?;
+        }
+        Ok(())
+    }
+
+    // Takes the lines of a rule.
+    fn take_rule(&mut self) -> Result<(), ReadFault>
+        ensures { Takes result self.old self.new (kind_line ∷ []) (λ _. []) }
+    {
+        let kind = self.take_kind()?;
+        self.take_list(Counting::Rows, Entry::Row)?;
+        match kind {
+            Kind::Functional => {
+                self.take_list(Counting::Left, Entry::Variable)?;
+                self.take_list(Counting::Right, Entry::Variable)
+            }
+            Kind::Equality => self.take_list(Counting::Pairs, Entry::Pair),
+        }
+    }
+
+    // Takes a count and the rules that it counts. The loop is take_list's over rules: one function for both takes a closure
+    // over the desk, and the checker proves none yet whose bound names several lifetimes.
+    fn take_rules(&mut self, counting: Counting) -> Result<(), ReadFault>
+        requires counts { (n : ℕ) → after_count counting n ≡ replicate n kind_line }
+        ensures { Takes result self.old self.new (counting_line counting ∷ []) (λ _. []) }
+    {
+        let many = self.take_count(counting)?;
+        for _ in 0..many {
+            self.take_rule()?;
+        }
+        Ok(())
+    }
+
+    // Takes all lines; none may follow.
+    pub(crate) fn take_text(&mut self) -> Result<(), ReadFault>
+        ensures same { Sames self.old self.new }
+        ensures cases { MatchResult result
+            (λ _. going (rooms_of self.old) self.old whole_text ≡ Ok (held self.new))
+            (λ e. going (rooms_of self.old) self.old whole_text ≡ Err e) }
+    {
+        self.take_count(Counting::Width)?;
+        self.take_rules(Counting::Rules)?;
+        self.take_rules(Counting::Targets)?;
+        if self.at.from < self.text.len() {
+            return Err(self.at.fault(Cause::Lines));
+        }
+        Ok(())
+    }
 }

@@ -1,27 +1,38 @@
-// The fault of a reader as a refusal.
+// The fault of a reader as a refusal, and no place left as a cause.
 ghost use Rattle.std.specs.Prelude.{◌≡◌};
-ghost use Rattle.reader.specs.Faults.{read_refusal};
+ghost use Rattle.reader.specs.declared.fault.Cause.TheVariants.{Room};
+ghost use Rattle.reader.specs.Faults.{cause_number, read_refusal};
 
 use crate::fault::{Cause, ReadFault};
 use rules::refusal::{Layer, Refusal};
+use text::list::Full;
 
-impl ReadFault {
-    // The refusal as every layer tells it.
-    pub fn refusal(self) -> Refusal
-        ensures { result ≡ read_refusal self }
+impl Cause {
+    // Its number in the table of refusals.
+    pub fn number(self) -> u8
+        ensures { result ≡ cause_number self }
     {
-        let number = match self.cause {
-            Cause::Byte => 1,
-            Cause::Form => 2,
-            Cause::Count => 3,
-            Cause::Unknown => 4,
-            Cause::Room => 5,
-            Cause::Lines => 6,
-        };
+        self as u8
+    }
+}
+
+impl From<Full> for Cause {
+    ghost from_gives = { λ _ cause. cause ≡ Room };
+
+    fn from(_full: Full) -> Cause {
+        Cause::Room
+    }
+}
+
+// The refusal as every layer tells it.
+impl From<ReadFault> for Refusal {
+    ghost from_gives = { λ fault refusal. refusal ≡ read_refusal fault };
+
+    fn from(fault: ReadFault) -> Refusal {
         Refusal {
-            number,
+            number: fault.cause.number(),
             layer: Layer::Reader,
-            place: self.line,
+            place: fault.line,
         }
     }
 }

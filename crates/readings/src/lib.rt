@@ -1,55 +1,41 @@
 // Texts, and how they are read.
 #![tactic(auto)]
 
-use reader::desk::Sizes;
-use reader::fault::{Cause, ReadFault};
+use reader::desk::Lent;
+use rules::refusal::Refusal;
 use spelling::spelled::read;
 use std::alloc::{AllocError, Global};
 use text::words::Name;
 
-// The number of a cause in the table of refusals.
-pub fn number(cause: Cause) -> u8 {
-    match cause {
-        Cause::Byte => 1,
-        Cause::Form => 2,
-        Cause::Count => 3,
-        Cause::Unknown => 4,
-        Cause::Room => 5,
-        Cause::Lines => 6,
-    }
-}
+// More places than a reader uses.
+const MOST: usize = 5_000;
 
-// Reads with this many places for each list, and says the refusal's number and line, or 0 and 0.
-pub fn refusal(text: &[u8], rules: usize, targets: usize, names: usize) -> (u8, usize) {
-    let mut first = [7u32; 5000];
-    let mut second = [7u32; 5000];
+// The refusal's number and line, or none where the text is read. So many places are lent for each list, and at most 5,000;
+// none of them is blank before.
+pub fn refusal(text: &[u8], rules: usize, targets: usize, names: usize) -> Option<(u8, usize)> {
+    let mut first = [7u32; MOST];
+    let mut second = [7u32; MOST];
     let mut third = [Name {
         place: 9,
         length: 9,
-    }; 5000];
-    if rules > 5000 || targets > 5000 || names > 5000 {
-        return (9, 9);
-    }
-    match read(
-        text,
-        &mut first[0..rules],
-        &mut second[0..targets],
-        &mut third[0..names],
-    ) {
-        Ok(_) => (0, 0),
-        Err(fault) => (number(fault.cause), fault.line),
-    }
+    }; MOST];
+    let mut lent = Lent {
+        rules: &mut first[..rules.min(MOST)],
+        targets: &mut second[..targets.min(MOST)],
+        names: &mut third[..names.min(MOST)],
+    };
+    let refusal = Refusal::from(read(text, &mut lent).err()?);
+    Some((refusal.number, refusal.place))
 }
 
 // Whether a text is refused so.
-pub fn refused(text: &[u8], cause: u8, line: usize) -> bool {
-    let (c, l) = refusal(text, 100, 100, 20);
-    c == cause && l == line
+pub fn refused(text: &[u8], number: u8, line: usize) -> bool {
+    refusal(text, 100, 100, 20) == Some((number, line))
 }
 
 // Whether a text is read.
 pub fn accepted(text: &[u8]) -> bool {
-    refused(text, 0, 0)
+    refusal(text, 100, 100, 20).is_none()
 }
 
 // A rule of 4 rows of 8 words and so many pairs: 36 words, and 2 for each pair.
@@ -58,13 +44,8 @@ fn add_rule(text: &mut Vec<u8>, pairs: u32) -> Result<(), AllocError> {
     for _ in 0..4u32 {
         text.extend_from_slice(b"$a $a $a $a $a $a $a $a\n")?;
     }
-    if pairs == 32 {
-        text.extend_from_slice(b"pairs 32\n")?;
-    } else if pairs == 30 {
-        text.extend_from_slice(b"pairs 30\n")?;
-    } else {
-        text.extend_from_slice(b"pairs 29\n")?;
-    }
+    let count = format!(in *text.allocator(); "pairs {pairs}\n")?;
+    text.extend_from_slice(count.as_bytes())?;
     for _ in 0..pairs {
         text.extend_from_slice(b"$a x\n")?;
     }
@@ -83,13 +64,11 @@ pub fn full_sheet(heap: Global, pairs: u32) -> Result<Vec<u8>, AllocError> {
     Ok(text)
 }
 
-// A text of so many bytes, most of them spaces; at least 25.
+// A text of so many bytes, most of them spaces; at least 25. `rounds` has its own: it would else stand on a crate of tests.
 pub fn spaced(heap: Global, bytes: usize) -> Result<Vec<u8>, AllocError> {
     let mut text = Vec::new(heap);
     text.extend_from_slice(b"width 1\nrules 0\ntargets 0")?;
-    for _ in 25..bytes {
-        text.push(b' ')?;
-    }
+    text.resize(bytes, b' ')?;
     Ok(text)
 }
 
@@ -202,33 +181,33 @@ mod tests {
     #[test]
     fn places(rt: HostRuntime) {
         let text = b"width 2\nrules 1\nequality\nrows 1\n$a b\npairs 1\n$a c\ntargets 0\n";
-        assert!(rt; refusal(text, 10, 2, 2) == (0, 0));
-        assert!(rt; refusal(text, 9, 2, 2) == (5, 7));
-        assert!(rt; refusal(text, 7, 2, 2) == (5, 6));
-        assert!(rt; refusal(text, 0, 2, 2) == (5, 1));
-        assert!(rt; refusal(text, 10, 1, 2) == (5, 8));
-        assert!(rt; refusal(text, 10, 2, 1) == (5, 7));
-        assert!(rt; refusal(text, 10, 2, 0) == (5, 5));
-        assert!(rt; refusal(text, 5000, 5000, 5000) == (0, 0));
+        assert!(rt; refusal(text, 10, 2, 2).is_none());
+        assert!(rt; refusal(text, 9, 2, 2) == Some((5, 7)));
+        assert!(rt; refusal(text, 7, 2, 2) == Some((5, 6)));
+        assert!(rt; refusal(text, 0, 2, 2) == Some((5, 1)));
+        assert!(rt; refusal(text, 10, 1, 2) == Some((5, 8)));
+        assert!(rt; refusal(text, 10, 2, 1) == Some((5, 7)));
+        assert!(rt; refusal(text, 10, 2, 0) == Some((5, 5)));
+        assert!(rt; refusal(text, 5000, 5000, 5000).is_none());
     }
 
     #[test]
     fn full(rt: HostRuntime) -> Result<(), Fail> {
         let fits = full_sheet(rt.alloc(), 29)?;
-        assert!(rt; refusal(fits.as_slice(), 4096, 10, 10) == (0, 0));
-        assert!(rt; refusal(fits.as_slice(), 5000, 10, 10) == (0, 0));
-        assert!(rt; refusal(fits.as_slice(), 4095, 10, 10) == (5, 1598));
+        assert!(rt; refusal(fits.as_slice(), 4096, 10, 10).is_none());
+        assert!(rt; refusal(fits.as_slice(), 5000, 10, 10).is_none());
+        assert!(rt; refusal(fits.as_slice(), 4095, 10, 10) == Some((5, 1598)));
         let over = full_sheet(rt.alloc(), 30)?;
-        assert!(rt; refusal(over.as_slice(), 5000, 10, 10) == (5, 1599));
+        assert!(rt; refusal(over.as_slice(), 5000, 10, 10) == Some((5, 1599)));
         Ok(())
     }
 
     #[test]
     fn long(rt: HostRuntime) -> Result<(), Fail> {
         let fits = spaced(rt.alloc(), 65_536)?;
-        assert!(rt; refusal(fits.as_slice(), 10, 10, 10) == (0, 0));
+        assert!(rt; refusal(fits.as_slice(), 10, 10, 10).is_none());
         let over = spaced(rt.alloc(), 65_537)?;
-        assert!(rt; refusal(over.as_slice(), 10, 10, 10) == (5, 0));
+        assert!(rt; refusal(over.as_slice(), 10, 10, 10) == Some((5, 0)));
         Ok(())
     }
 
@@ -241,22 +220,17 @@ mod tests {
             length: 9,
         }; 3];
         let text = b"width 2\nrules 1\nequality\nrows 1\n$a b\npairs 1\n$a c\ntargets 0\n";
-        match read(text, &mut rules, &mut targets, &mut names) {
-            Ok(s) => {
-                assert!(rt; s.rules == 10 && s.targets == 2 && s.names == 2);
-                assert!(rt; rules[0] == 2 && rules[1] == 1 && rules[2] == 2 && rules[3] == 1);
-                assert!(rt;
-                    rules[4] == 16_777_216 && rules[5] == 0 && rules[6] == 0 && rules[7] == 1
-                );
-                assert!(rt;
-                    rules[8] == 16_777_216 && rules[9] == 1 && rules[10] == 0 && rules[11] == 0
-                );
-                assert!(rt; targets[0] == 2 && targets[1] == 0 && targets[2] == 0);
-                assert!(rt; names[0].place == 35 && names[0].length == 1);
-                assert!(rt; names[1].place == 48 && names[1].length == 1 && names[2].length == 0);
-                Ok(())
-            }
-            Err(_) => Err(Fail::new("refused")),
-        }
+        let mut lent = Lent {
+            rules: &mut rules,
+            targets: &mut targets,
+            names: &mut names,
+        };
+        let sizes = read(text, &mut lent).map_err(|_| Fail::new("refused"))?;
+        assert!(rt; sizes.rules == 10 && sizes.targets == 2 && sizes.names == 2);
+        assert!(rt; rules == [2, 1, 2, 1, 16_777_216, 0, 0, 1, 16_777_216, 1, 0, 0]);
+        assert!(rt; targets[0..3] == [2, 0, 0]);
+        assert!(rt; names[0].place == 35 && names[0].length == 1);
+        assert!(rt; names[1].place == 48 && names[1].length == 1 && names[2] == Name::NONE);
+        Ok(())
     }
 }

@@ -1,4 +1,5 @@
 pub mod Pushed
+pub mod Shorts
 pub mod Tried
 pub mod Whole
 pub mod Single

@@ -7,8 +7,8 @@ use Rattle.rules.specs.declared.term.Term.TheVariants.{Constant, Variable}
 use Rattle.rules.specs.Rules.{◌∈◌, Rule}
 use Rattle.rules.specs.Books.{BookMeaning, WellFormedBook}
 use Rattle.text.specs.declared.words.Name.{Name}
-use Rattle.text.specs.Words.{Word}
-use Rattle.reader.specs.Reads.{name_of, no_name, padded}
+use Rattle.text.specs.Words.{name_of, Word}
+use Rattle.reader.specs.Reads.{no_name, padded}
 use Rattle.spelling.proofs.Facts.{all_mem}
 use Rattle.spelling.proofs.Named.{PairBelow, RuleBelow, Short}
 use Rattle.spelling.proofs.Named as spelled

@@ -1,11 +1,12 @@
 -- What is printed of a report.
 use Rattle.std.proofs.Common.{◌≡◌, ℕ, ◌-◌, ◌^◌, ◌<◌, ◌≤◌, Bool, true, false, List, [], ◌∷◌, ◌++◌, length, take, replicate, Ok, Err, Result, ap, ◌∙◌, append-nil, arith, lit≤}
+use Rattle.std.specs.Result.{result_unwrap_or}
 use lib.Seq.{take-append_seam}
 use Rattle.rules.specs.declared.refusal.Refusal.{Refusal}
 use Rattle.text.specs.declared.words.Name.{Name}
 use Rattle.reader.specs.declared.fault.ReadFault.{ReadFault}
 use Rattle.reader.specs.Format.{Memo, read_text}
-use Rattle.reader.specs.Reads.{Lent, rooms_in}
+use Rattle.reader.specs.Reads.{Lengths, rooms_in}
 use Rattle.writing.specs.declared.room.TooShort.{TooShort}
 use Rattle.writing.specs.Faults.{short_at}
 use Rattle.writing.specs.Reports.{parts, refusal_text}
@@ -30,14 +31,14 @@ never_true e = let z : ◌≡◌ {A = ℕ} 0 1 = cc in absurd (omega arith)
 pub front : (size : ℕ) (ps : List (List ℕ)) (n : ℕ) (out : List ℕ) → Fits size ps n out → take n out ≡ whole ps
 front size ps n out f = ap (λ xs. take n xs) f.holds ∙ ap (λ k. take k (whole ps ++ replicate (size - n) 0)) f.long ∙ take-append_seam (whole ps) (replicate (size - n) 0)
 
-pub printed_ok : (o : Result Memo ReadFault) (text : List ℕ) (l : Lent) (room n : ℕ) (rs ts : List ℕ) (ns : List Name) (out : List ℕ) → AnswerOf o text l room (Ok n) rs ts ns out → Printed o text l (take n out)
+pub printed_ok : (o : Result Memo ReadFault) (text : List ℕ) (l : Lengths) (room n : ℕ) (rs ts : List ℕ) (ns : List Name) (out : List ℕ) → AnswerOf o text l room (Ok n) rs ts ns out → Printed o text l (take n out)
 printed_ok (Err e) text l room n rs ts ns out h = never_ok n (Reading e) h.0
 printed_ok (Ok m) text l room n rs ts ns out h = record { outcomes = h.outcomes; answered = h.answered; is = front room (parts text (names_in l m) h.outcomes) n out h.writes }
 
 same_fault : (f g : ReportFault) → ◌≡◌ {A = Result ℕ ReportFault} (Err f) (Err g) → f ≡ g
 same_fault f g e = cc
 
-pub printed_err : (o : Result Memo ReadFault) (text : List ℕ) (l : Lent) (room : ℕ) (f : ReportFault) (rs ts : List ℕ) (ns : List Name) (out : List ℕ) → read_text (rooms_in l) text ≡ o → enough ≤ room →
+pub printed_err : (o : Result Memo ReadFault) (text : List ℕ) (l : Lengths) (room : ℕ) (f : ReportFault) (rs ts : List ℕ) (ns : List Name) (out : List ℕ) → read_text (rooms_in l) text ≡ o → enough ≤ room →
     AnswerOf o text l room (Err f) rs ts ns out → Printed o text l (refusal_text (report_refusal f))
 printed_err (Err e) text l room f rs ts ns out q long h = ap (λ g. refusal_text (report_refusal g)) (same_fault f (Reading e) h.0)
 printed_err (Ok m) text l room f rs ts ns out q long h =
@@ -57,3 +58,9 @@ line_fits r size f out room small here w =
 
 pub line_is : (r : Refusal) (size n : ℕ) (out : List ℕ) → Writes short_at size (refusal_text r ∷ []) (Ok n) out → take n out ≡ refusal_text r
 line_is r size n out w = front size (refusal_text r ∷ []) n out w ∙ append-nil (refusal_text r)
+
+-- so the line is written, whatever would be answered of a fault
+pub line_written : (r : Refusal) (size n : ℕ) (w : Result ℕ TooShort) (out : List ℕ) → 40 ≤ size → r.number < 256 → r.place < 2 ^ 64 → Writes short_at size (refusal_text r ∷ []) w out →
+    n ≡ result_unwrap_or w 0 → take n out ≡ refusal_text r
+line_written r size n (Ok x) out room small here w e = ap (λ k. take k out) e ∙ line_is r size x out w
+line_written r size n (Err f) out room small here w e = absurd (line_fits r size f out room small here w)

@@ -8,7 +8,7 @@ use Rattle.sheets.specs.Layout.{layout}
 use Rattle.sheets.specs.Reads.{sheet_meaning}
 use Rattle.reader.specs.declared.fault.ReadFault.{ReadFault}
 use Rattle.reader.specs.Format.{Memo, read_text}
-use Rattle.reader.specs.Reads.{Lent, rooms_in}
+use Rattle.reader.specs.Reads.{Lengths, rooms_in}
 use Rattle.writing.specs.Outcomes.{Outcome}
 use Rattle.writing.specs.Reports.{parts}
 use Rattle.writing.specs.Fitting.{whole, Writes}
@@ -60,7 +60,7 @@ laid_alike : WrittenPasses → (b c : BookMeaning) → Fitting b → Fitting c �
 laid_alike written b c fb fc e =
     sym (written b [] fb).1 ∙ ap (λ (ws : List ℕ). sheet_meaning (ws ++ [])) e ∙ (written c [] fc).1
 
-module _ (written : WrittenPasses) (l : Lent) (text : List ℕ) where
+module _ (written : WrittenPasses) (l : Lengths) (text : List ℕ) where
   -- what was read has one list of outcomes
   outcomes_one : (m : Memo) → read_text (rooms_in l) text ≡ Ok m → (os os' : List Outcome) → Answered text m os → Answered text m os' → os ≡ os'
   outcomes_one m q os os' a a' =
@@ -98,7 +98,7 @@ pub one_printed : WrittenPasses → OnePrinted
 one_printed written l text bytes bytes' f f' = printed_one written l text (read_text (rooms_in l) text) refl bytes bytes' f f'
 
 -- every report fits an output that is long enough
-pub always_fits : (l : Lent) (text : List ℕ) (m : Memo) → read_text (rooms_in l) text ≡ Ok m → (os : List Outcome) → Answered text m os → length (whole (parts text (names_in l m) os)) ≤ enough
+pub always_fits : (l : Lengths) (text : List ℕ) (m : Memo) → read_text (rooms_in l) text ≡ Ok m → (os : List Outcome) → Answered text m os → length (whole (parts text (names_in l m) os)) ≤ enough
 always_fits l text m q os a =
     let f = answered_as l text m q a in
     report_enough text (names_in l m) os

@@ -10,7 +10,7 @@ use Rattle.text.specs.declared.words.Name.{Name}
 use Rattle.text.specs.Words.{Word}
 use Rattle.reader.specs.declared.fault.ReadFault.{ReadFault}
 use Rattle.reader.specs.Format.{Memo, read_text}
-use Rattle.reader.specs.Reads.{Lent, rooms_in, padded}
+use Rattle.reader.specs.Reads.{Lengths, rooms_in, padded}
 use Rattle.spelling.specs.Draft.{put_down}
 use Rattle.spelling.specs.Book.{SpellsBook, book_of, targets_of}
 use Rattle.spelling.proofs.Theorems.{read-spells}
@@ -63,7 +63,7 @@ read_as text m book targets known few er et en s =
     }
 
 -- what an answer says of what was read
-pub answered_as : (l : Lent) (text : List ℕ) (m : Memo) → read_text (rooms_in l) text ≡ Ok m → {os : List _} → (a : Answered text m os) → ReadAs text m a.book a.targets a.known
+pub answered_as : (l : Lengths) (text : List ℕ) (m : Memo) → read_text (rooms_in l) text ≡ Ok m → {os : List _} → (a : Answered text m os) → ReadAs text m a.book a.targets a.known
 answered_as l text m q a = read_as text m a.book a.targets a.known (few_names l text m q) a.rules_read a.targets_read a.names_read a.spelled
 
 -- a book laid out in padded places is a sheet that passes and means it
@@ -75,7 +75,7 @@ sheet_of written passing b size words fit e =
     let same : padded size 0 words ≡ layout b ++ rest = ap (λ (ws : List ℕ). ws ++ rest) e in
     ((passing (padded size 0 words) (length (layout b)) (ap sheet_end same ∙ p.0)).1, ap sheet_meaning same ∙ p.1)
 
-module _ (written : WrittenPasses) (passing : PassingIsWritten) (l : Lent) (text : List ℕ) where
+module _ (written : WrittenPasses) (passing : PassingIsWritten) (l : Lengths) (text : List ℕ) where
   lent_after : (m : Memo) (room : ℕ) (r : Result ℕ ReportFault) (rs ts : List ℕ) (ns : List Name) (out : List ℕ) → PlacesAfter r l m room rs ts ns out → LentAfter r l m rs ts ns
   lent_after m room (Ok n) rs ts ns out h = h
   lent_after m room (Err e) rs ts ns out h = h.0

@@ -6,8 +6,8 @@ use Rattle.sheets.specs.Reads.{sheet_meaning}
 use Rattle.text.specs.declared.words.Name.{Name}
 use Rattle.reader.specs.declared.fault.ReadFault.{ReadFault}
 use Rattle.reader.specs.Format.{Memo}
-use Rattle.reader.specs.Reads.{Lent, name_of, no_name, padded, Blank}
-use Rattle.text.specs.Words.{Word}
+use Rattle.reader.specs.Reads.{Lengths, no_name, padded, Blank}
+use Rattle.text.specs.Words.{name_of, Word}
 use Rattle.spelling.specs.Draft.{Draft, Spells, put_down}
 use Rattle.spelling.specs.Book.{SpellsBook}
 use Rattle.pieces.specs.declared.output.Output.{Output}
@@ -46,22 +46,22 @@ pub record Sound (rules targets : List ℕ) : Type 0 where
   pub one_width : (sheet_meaning targets).width ≡ (sheet_meaning rules).width
 
 -- what the lent places hold of what was read
-abbrev pub rules_in : Lent → Memo → List ℕ
+abbrev pub rules_in : Lengths → Memo → List ℕ
 rules_in l m = padded l.rules 0 m.rules
 
-abbrev pub targets_in : Lent → Memo → List ℕ
+abbrev pub targets_in : Lengths → Memo → List ℕ
 targets_in l m = padded l.targets 0 m.targets
 
-abbrev pub names_in : Lent → Memo → List Name
+abbrev pub names_in : Lengths → Memo → List Name
 names_in l m = padded l.names no_name (map name_of m.names)
 
-pub record HoldsRead (l : Lent) (m : Memo) (rs ts : List ℕ) (ns : List Name) : Type 0 where
+pub record HoldsRead (l : Lengths) (m : Memo) (rs ts : List ℕ) (ns : List Name) : Type 0 where
   pub rules : rs ≡ rules_in l m
   pub targets : ts ≡ targets_in l m
   pub names : ns ≡ names_in l m
 
 -- by what the reader answers: its fault arrives whole, or the report on what was read is written
-abbrev pub ReadsAndFills : Result Memo ReadFault → List ℕ → Lent → Output → Result (Unit {0}) ReportFault → Output → List ℕ → List ℕ → List Name → Type 0
+abbrev pub ReadsAndFills : Result Memo ReadFault → List ℕ → Lengths → Output → Result (Unit {0}) ReportFault → Output → List ℕ → List ℕ → List Name → Type 0
 ReadsAndFills (Err e) text l from r to rs ts ns = (r ≡ Err (Reading e)) × Blank l rs ts ns
 ReadsAndFills (Ok m) text l from r to rs ts ns = HoldsRead l m rs ts ns × (Sound rs ts → ReportFills (sheet_meaning rs) (sheet_meaning ts) text ns from r to)
 
@@ -71,12 +71,12 @@ kept (Ok u) xs zero = xs
 kept (Err e) xs zero = replicate (length xs) zero
 
 -- what the places hold in the end: what was read, or after a refusal zeros, the output's too
-abbrev pub PlacesAfter : Result ℕ ReportFault → Lent → Memo → ℕ → List ℕ → List ℕ → List Name → List ℕ → Type 0
+abbrev pub PlacesAfter : Result ℕ ReportFault → Lengths → Memo → ℕ → List ℕ → List ℕ → List Name → List ℕ → Type 0
 PlacesAfter (Ok n) l m room rs ts ns out = HoldsRead l m rs ts ns
 PlacesAfter (Err e) l m room rs ts ns out = Blank l rs ts ns × (out ≡ replicate room 0)
 
 -- what the report answers and what each place then holds, by what the reader answers
-abbrev pub ReportOf : Result Memo ReadFault → List ℕ → Lent → ℕ → Result ℕ ReportFault → List ℕ → List ℕ → List Name → List ℕ → Type 0
+abbrev pub ReportOf : Result Memo ReadFault → List ℕ → Lengths → ℕ → Result ℕ ReportFault → List ℕ → List ℕ → List Name → List ℕ → Type 0
 ReportOf (Err e) text l room r rs ts ns out = (r ≡ Err (Reading e)) × Blank l rs ts ns × (out ≡ replicate room 0)
 ReportOf (Ok m) text l room r rs ts ns out =
     PlacesAfter r l m room rs ts ns out
@@ -96,6 +96,6 @@ pub record AsSpelled (text : List ℕ) (names : List Name) (room : ℕ) (r : Res
   pub reported : Reported book targets text names room r out
 
 -- by what the reader answers: its refusal and no other, or the report on what the text spells
-abbrev pub ToldOf : Result Memo ReadFault → List ℕ → Lent → ℕ → Result ℕ ReportFault → List ℕ → Type 0
+abbrev pub ToldOf : Result Memo ReadFault → List ℕ → Lengths → ℕ → Result ℕ ReportFault → List ℕ → Type 0
 ToldOf (Err e) text l room r out = r ≡ Err (Reading e)
 ToldOf (Ok m) text l room r out = AsSpelled text (names_in l m) room r out

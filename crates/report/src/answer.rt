@@ -1,56 +1,43 @@
 // The whole answer to a text, as it is printed.
 ghost use Rattle.std.specs.Prelude.{◌≡◌, ◌≤◌, length, take, IfOk};
 ghost use Rattle.reader.specs.Format.{read_text};
-ghost use Rattle.reader.specs.Reads.{rooms_in};
+ghost use Rattle.reader.specs.Reads.{lengths, rooms_in};
 ghost use Rattle.writing.specs.Reports.{refusal_text};
 ghost use Rattle.spelling.specs.Room.{most};
 ghost use Rattle.report.specs.Answered.{Printed};
 
 use crate::report::report;
+use reader::desk::Lent;
 use rules::refusal::Refusal;
 use std::alloc::{AllocError, Global};
+use text::list::CAPACITY;
 use text::words::Name;
 use writing::refused::write_refusal;
 
 // As many places of each list as are ever used.
-const PLACES: usize = 4096;
+const PLACES: usize = CAPACITY;
 
 // Long enough for every report on a text that is read into them.
 const OUTPUT: usize = 415_756;
-
-const NO_NAME: Name = Name {
-    place: 0,
-    length: 0,
-};
 
 // Writes the line of a refusal, which always fits; it answers the number of bytes.
 fn put_refusal(refusal: Refusal, output: &mut [u8]) -> usize
     requires { 40 ≤ length output.old }
     ensures { take result output.new ≡ refusal_text refusal }
 {
-    match write_refusal(refusal, output) {
-        Ok(size) => size,
-        Err(_) => 0,
-    }
+    write_refusal(refusal, output).unwrap_or(0)
 }
 
 // Writes the report, which always fits, or the line of the reader's refusal; it answers the number of bytes.
-fn put_answer(
-    text: &[u8],
-    rules: &mut [u32],
-    targets: &mut [u32],
-    names: &mut [Name],
-    output: &mut [u8],
-) -> usize
-    requires rules { length rules.old ≡ 4096 }
-    requires targets { length targets.old ≡ 4096 }
-    requires names { length names.old ≡ 4096 }
+fn put_answer(text: &[u8], lent: &mut Lent, output: &mut [u8]) -> usize
+    requires lent { lengths lent.old ≡ most }
     requires output { length output.old ≡ 415756 }
     ensures { Printed (read_text (rooms_in most) text.now) text.now most (take result output.new) }
 {
-    match report(text, rules, targets, names, output) {
+    // a match: of a closure that wrote the refusal no proof would know what the output then holds
+    match report(text, lent, output) {
         Ok(size) => size,
-        Err(fault) => put_refusal(fault.refusal(), output),
+        Err(fault) => put_refusal(fault.into(), output),
     }
 }
 
@@ -60,15 +47,14 @@ pub fn answer(heap: Global, text: &[u8]) -> Result<Vec<u8>, AllocError>
 {
     let mut rules = [0u32; PLACES];
     let mut targets = [0u32; PLACES];
-    let mut names = [NO_NAME; PLACES];
+    let mut names = [Name::NONE; PLACES];
+    let mut lent = Lent {
+        rules: &mut rules,
+        targets: &mut targets,
+        names: &mut names,
+    };
     let mut output = vec![in heap; 0u8; OUTPUT]?;
-    let size = put_answer(
-        text,
-        &mut rules,
-        &mut targets,
-        &mut names,
-        output.as_mut_slice(),
-    );
+    let size = put_answer(text, &mut lent, output.as_mut_slice());
     output.truncate(size);
     Ok(output)
 }

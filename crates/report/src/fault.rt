@@ -6,7 +6,7 @@ use trial::fault::TrialFault;
 use writing::room::TooShort;
 
 // The fault of the layer that refused, whole, or that the output is too short.
-#[derive(Clone, Copy)]
+#[derive(Clone, Copy, PartialEq, Eq, Debug)]
 pub enum ReportFault {
     Reading(ReadFault),
     Book(BookFault),

@@ -1,4 +1,4 @@
-// Each lower fault arrives whole.
+// Each lower fault arrives whole, and so does its refusal.
 ghost use Rattle.std.specs.Prelude.{◌≡◌};
 ghost use Rattle.report.specs.Faults.{report_refusal};
 ghost use Rattle.report.specs.declared.fault.ReportFault.TheVariants.{Reading, Book, Joining, Trial, Short};
@@ -51,17 +51,17 @@ impl From<TooShort> for ReportFault {
     }
 }
 
-impl ReportFault {
-    // The refusal as every layer tells it, with its number, its layer and its place.
-    pub fn refusal(self) -> Refusal
-        ensures { result ≡ report_refusal self }
-    {
-        match self {
-            ReportFault::Reading(e) => e.refusal(),
-            ReportFault::Book(e) => e.refusal(),
-            ReportFault::Joining(e) => e.refusal(),
-            ReportFault::Trial(e) => e.refusal(),
-            ReportFault::Short(e) => e.refusal(),
+// The refusal as every layer tells it, with its number, its layer and its place.
+impl From<ReportFault> for Refusal {
+    ghost from_gives = { λ fault refusal. refusal ≡ report_refusal fault };
+
+    fn from(fault: ReportFault) -> Refusal {
+        match fault {
+            ReportFault::Reading(e) => e.into(),
+            ReportFault::Book(e) => e.into(),
+            ReportFault::Joining(e) => e.into(),
+            ReportFault::Trial(e) => e.into(),
+            ReportFault::Short(e) => e.into(),
         }
     }
 }

@@ -1,8 +1,8 @@
 // The merchant's answer: a text in, verdicts and counter rows out.
-ghost use Rattle.std.specs.Prelude.{◌≡◌, ℕ, ◌+◌, ◌-◌, ◌<◌, ◌≤◌, List, [], ◌∷◌, ◌++◌, length};
+ghost use Rattle.std.specs.Prelude.{◌≡◌, ◌≤◌, length};
 ghost use Rattle.sheets.specs.Reads.{sheet_meaning};
 ghost use Rattle.reader.specs.Format.{read_text};
-ghost use Rattle.reader.specs.Reads.{lent, rooms_in, no_name};
+ghost use Rattle.reader.specs.Reads.{lengths, no_name, rooms_in, SamePlaces};
 ghost use Rattle.pieces.specs.Put.{Same, size};
 ghost use Rattle.report.specs.Reported.{Sound, ReportFills, ReadsAndFills, kept, ReadAsSpelled, ReportOf, ToldOf};
 ghost use Rattle.report.specs.Answered.{AnswerOf};
@@ -10,124 +10,74 @@ ghost use Rattle.report.specs.Answered.{AnswerOf};
 use crate::fault::ReportFault;
 use crate::targets::put_targets;
 use pieces::output::Output;
+use reader::desk::{Lent, Sizes};
 use reader::reader::read;
 use sheets::laws::layout_stands;
 use sheets::sheet::{Sheet, check};
-use text::list::blank_from;
-use text::words::Name;
 use writing::closing::close;
+use writing::naming::Naming;
 
-// Writes the report on two sheets.
-fn put_sheets(
-    out: &mut Output,
-    text: &[u8],
-    rules: &[u32],
-    targets: &[u32],
-    names: &[Name],
-) -> Result<(), ReportFault>
+// Writes the report on the two sheets that were read.
+fn put_sheets(out: &mut Output, text: &[u8], lent: &Lent) -> Result<(), ReportFault>
     requires { out.old.used ≤ size out.old }
     ensures same { Same out.old out.new }
-    ensures fills { Sound rules.now targets.now → ReportFills (sheet_meaning rules.now) (sheet_meaning targets.now) text.now names.now out.old result out.new }
+    ensures fills { Sound lent.now.rules.now lent.now.targets.now → ReportFills (sheet_meaning lent.now.rules.now) (sheet_meaning lent.now.targets.now) text.now lent.now.names.now out.old result out.new }
 {
+    let rules = &*lent.rules;
+    let targets = &*lent.targets;
     check(rules)?;
     check(targets)?;
+    let naming = Naming {
+        text,
+        names: &*lent.names,
+    };
     let book = Sheet::open(rules);
     let wanted = Sheet::open(targets);
-    put_targets(out, text, names, &book, &wanted)
+    put_targets(out, &naming, &book, &wanted)
 }
 
 // Reads the text, and writes the report on what it spells.
-fn read_and_put(
-    out: &mut Output,
-    text: &[u8],
-    rules: &mut [u32],
-    targets: &mut [u32],
-    names: &mut [Name],
-) -> Result<(), ReportFault>
+fn read_and_put(out: &mut Output, text: &[u8], lent: &mut Lent) -> Result<(), ReportFault>
     requires { out.old.used ≤ size out.old }
     ensures same { Same out.old out.new }
-    ensures reads { ReadsAndFills (read_text (rooms_in (lent rules.old targets.old names.old)) text.now)
-        text.now (lent rules.old targets.old names.old) out.old result out.new
-        rules.new targets.new names.new }
+    ensures lent { SamePlaces lent.old lent.new }
+    ensures reads { ReadsAndFills (read_text (rooms_in (lengths lent.old)) text.now) text.now (lengths lent.old)
+        out.old result out.new lent.new.rules.now lent.new.targets.now lent.new.names.now }
 {
-    read(text, rules, targets, names)?;
-    put_sheets(out, text, rules, targets, names)
+    read(text, lent)?;
+    put_sheets(out, text, lent)
 }
 
 // After a refusal all places are zero.
-fn clear_after(
-    put: Result<(), ReportFault>,
-    rules: &mut [u32],
-    targets: &mut [u32],
-    names: &mut [Name],
-)
-    ensures rules { rules.new ≡ kept put rules.old 0 }
-    ensures targets { targets.new ≡ kept put targets.old 0 }
-    ensures names { names.new ≡ kept put names.old no_name }
+fn clear_after(put: Result<(), ReportFault>, lent: &mut Lent)
+    ensures same { SamePlaces lent.old lent.new }
+    ensures rules { lent.new.rules.now ≡ kept put lent.old.rules.now 0 }
+    ensures targets { lent.new.targets.now ≡ kept put lent.old.targets.now 0 }
+    ensures names { lent.new.names.now ≡ kept put lent.old.names.now no_name }
 {
-    match put {
-        Ok(()) => {}
-        Err(_) => {
-            blank_from(rules, 0, 0);
-            blank_from(targets, 0, 0);
-            blank_from(
-                names,
-                0,
-                Name {
-                    place: 0,
-                    length: 0,
-                },
-            );
-        }
+    if put.is_err() {
+        lent.blank_past(Sizes::default());
     }
 }
 
-fn report_into(
-    out: &mut Output,
-    text: &[u8],
-    rules: &mut [u32],
-    targets: &mut [u32],
-    names: &mut [Name],
-) -> Result<usize, ReportFault>
-    requires { out.old.used ≡ 0 }
-    ensures same { Same out.old out.new }
-    ensures reports { ReportOf (read_text (rooms_in (lent rules.old targets.old names.old)) text.now)
-        text.now (lent rules.old targets.old names.old) (size out.old) result
-        rules.new targets.new names.new out.new.places.now }
-    ensures tells { ToldOf (read_text (rooms_in (lent rules.old targets.old names.old)) text.now)
-        text.now (lent rules.old targets.old names.old) (size out.old) result out.new.places.now }
-    ensures answers { AnswerOf (read_text (rooms_in (lent rules.old targets.old names.old)) text.now)
-        text.now (lent rules.old targets.old names.old) (size out.old) result
-        rules.new targets.new names.new out.new.places.now }
+// Reads a text into the lent places and writes the report on its targets; it answers the number of bytes.
+pub fn report(text: &[u8], lent: &mut Lent, output: &mut [u8]) -> Result<usize, ReportFault>
+    ensures same { SamePlaces lent.old lent.new }
+    ensures spelled { ReadAsSpelled text.now (read_text (rooms_in (lengths lent.old)) text.now) }
+    ensures reports { ReportOf (read_text (rooms_in (lengths lent.old)) text.now) text.now (lengths lent.old)
+        (length output.old) result lent.new.rules.now lent.new.targets.now lent.new.names.now output.new }
+    ensures tells { ToldOf (read_text (rooms_in (lengths lent.old)) text.now) text.now (lengths lent.old)
+        (length output.old) result output.new }
+    ensures answers { AnswerOf (read_text (rooms_in (lengths lent.old)) text.now) text.now (lengths lent.old)
+        (length output.old) result lent.new.rules.now lent.new.targets.now lent.new.names.now output.new }
 {
     // what is laid out passes the sheet's check and reads back
     layout_stands();
-    let put = read_and_put(out, text, rules, targets, names);
-    clear_after(put, rules, targets, names);
-    close(out, put)
-}
-
-// Reads a text into the lent places and writes the report on its targets; it answers the number of bytes.
-pub fn report(
-    text: &[u8],
-    rules: &mut [u32],
-    targets: &mut [u32],
-    names: &mut [Name],
-    output: &mut [u8],
-) -> Result<usize, ReportFault>
-    ensures spelled { ReadAsSpelled text.now (read_text (rooms_in (lent rules.old targets.old names.old)) text.now) }
-    ensures reports { ReportOf (read_text (rooms_in (lent rules.old targets.old names.old)) text.now)
-        text.now (lent rules.old targets.old names.old) (length output.old) result
-        rules.new targets.new names.new output.new }
-    ensures tells { ToldOf (read_text (rooms_in (lent rules.old targets.old names.old)) text.now)
-        text.now (lent rules.old targets.old names.old) (length output.old) result output.new }
-    ensures answers { AnswerOf (read_text (rooms_in (lent rules.old targets.old names.old)) text.now)
-        text.now (lent rules.old targets.old names.old) (length output.old) result
-        rules.new targets.new names.new output.new }
-{
     let mut out = Output {
         places: output,
         used: 0,
     };
-    report_into(&mut out, text, rules, targets, names)
+    let put = read_and_put(&mut out, text, lent);
+    clear_after(put, lent);
+    close(&mut out, put)
 }

@@ -1,6 +1,6 @@
 // Refusal lines at every length around their own.
+use crate::saying::write_front;
 use rules::refusal::{Layer, Refusal};
-use std::io::Write;
 use writing::refused::write_refusal;
 
 pub fn print_lines(rt: &HostRuntime) -> anyhow::Result<()> {
@@ -23,7 +23,7 @@ pub fn print_lines(rt: &HostRuntime) -> anyhow::Result<()> {
         let most = Refusal {
             number: 255,
             layer,
-            place: 18446744073709551615,
+            place: usize::MAX,
         };
         print_line(rt, most, 40)?;
     }
@@ -36,15 +36,11 @@ fn print_line(rt: &HostRuntime, refusal: Refusal, room: usize) -> anyhow::Result
     match write_refusal(refusal, output.as_mut_slice()) {
         Ok(size) => {
             print!(rt; "{room} bytes, {size} used: ")?;
-            if size <= output.len() {
-                rt.stdout().write_all(&output.as_slice()[0..size])?;
-            }
+            write_front(rt, output.as_slice(), size)?;
         }
         Err(fault) => {
-            let own = fault.refusal();
-            let number = own.number;
-            let place = own.place;
-            println!(rt; "{room} bytes: refused {number} at {place}")?;
+            let own = Refusal::from(fault);
+            println!(rt; "{room} bytes: refused {} at {}", own.number, own.place)?;
         }
     }
     Ok(())

@@ -1,35 +1,56 @@
 // What comes of a text, and how many places are then not zero.
+use reader::desk::Lent;
 use report::fault::ReportFault;
 use report::report::report;
+use rules::refusal::Refusal;
+use std::alloc::{AllocError, Global};
+use std::io;
 use std::io::Write;
 use text::words::Name;
 
-const NO_NAME: Name = Name {
-    place: 0,
-    length: 0,
-};
+// Places for a report, none of them zero before but those of the names.
+#[derive(Drop)]
+struct Places {
+    rules: Vec<u32>,
+    targets: Vec<u32>,
+    names: Vec<Name>,
+    output: Vec<u8>,
+}
+
+impl Places {
+    // So many for each list, and so many for the output.
+    fn new(heap: Global, count: usize, room: usize) -> Result<Places, AllocError> {
+        Ok(Places {
+            rules: vec![in heap; 7u32; count]?,
+            targets: vec![in heap; 7u32; count]?,
+            names: vec![in heap; Name::NONE; count]?,
+            output: vec![in heap; 7u8; room]?,
+        })
+    }
+
+    fn report(&mut self, text: &[u8]) -> Result<usize, ReportFault> {
+        let mut lent = Lent {
+            rules: self.rules.as_mut_slice(),
+            targets: self.targets.as_mut_slice(),
+            names: self.names.as_mut_slice(),
+        };
+        report(text, &mut lent, self.output.as_mut_slice())
+    }
+}
 
 // The report itself.
 pub fn print_report(rt: &HostRuntime, case: &str, text: &[u8]) -> anyhow::Result<()> {
-    let heap = rt.alloc();
-    let mut rules = vec![in heap; 7u32; 4096]?;
-    let mut targets = vec![in heap; 7u32; 4096]?;
-    let mut names = vec![in heap; NO_NAME; 4096]?;
-    let mut output = vec![in heap; 7u8; 4096]?;
+    let mut places = Places::new(rt.alloc(), 4096, 4096)?;
     println!(rt; "{case}:")?;
-    let answer = report(
-        text,
-        rules.as_mut_slice(),
-        targets.as_mut_slice(),
-        names.as_mut_slice(),
-        output.as_mut_slice(),
-    );
-    if let Ok(size) = answer {
-        if size <= output.len() {
-            rt.stdout().write_all(&output.as_slice()[0..size])?;
-        }
+    if let Ok(size) = places.report(text) {
+        write_front(rt, places.output.as_slice(), size)?;
     }
     Ok(())
+}
+
+// So many bytes of an output, from the first on.
+pub fn write_front(rt: &HostRuntime, output: &[u8], size: usize) -> io::Result<()> {
+    rt.stdout().write_all(output.get(..size).unwrap_or(&[]))
 }
 
 // Only the answer, with the places that are not zero: of the output, of the sheets.
@@ -40,60 +61,18 @@ pub fn print_round(
     room: usize,
     places: usize,
 ) -> anyhow::Result<()> {
-    let heap = rt.alloc();
-    let mut rules = vec![in heap; 7u32; places]?;
-    let mut targets = vec![in heap; 7u32; places]?;
-    let mut names = vec![in heap; NO_NAME; places]?;
-    let mut output = vec![in heap; 7u8; room]?;
-    let answer = report(
-        text,
-        rules.as_mut_slice(),
-        targets.as_mut_slice(),
-        names.as_mut_slice(),
-        output.as_mut_slice(),
-    );
-    let written = bytes_set(output.as_slice());
-    let words = words_set(rules.as_slice()).saturating_add(words_set(targets.as_slice()));
-    print_answer(rt, case, room, answer)?;
-    println!(rt; ", {written} bytes and {words} words not zero")?;
-    Ok(())
-}
-
-fn print_answer(
-    rt: &HostRuntime,
-    case: &str,
-    room: usize,
-    answer: Result<usize, ReportFault>,
-) -> anyhow::Result<()> {
+    let mut places = Places::new(rt.alloc(), places, room)?;
     print!(rt; "{case}, an output of {room}: ")?;
-    match answer {
+    match places.report(text) {
         Ok(size) => print!(rt; "{size} bytes")?,
         Err(fault) => {
-            let refusal = fault.refusal();
-            let number = refusal.number;
-            let place = refusal.place;
-            print!(rt; "refused {number} at {place}")?;
+            let refusal = Refusal::from(fault);
+            print!(rt; "refused {} at {}", refusal.number, refusal.place)?;
         }
     }
+    let written = places.output.iter().filter(|b| **b != 0).count();
+    let sheets = places.rules.iter().chain(places.targets.iter());
+    let words = sheets.filter(|w| **w != 0).count();
+    println!(rt; ", {written} bytes and {words} words not zero")?;
     Ok(())
-}
-
-fn bytes_set(bytes: &[u8]) -> usize {
-    let mut set: usize = 0;
-    for b in bytes {
-        if *b != 0 {
-            set = set.saturating_add(1);
-        }
-    }
-    set
-}
-
-fn words_set(words: &[u32]) -> usize {
-    let mut set: usize = 0;
-    for w in words {
-        if *w != 0 {
-            set = set.saturating_add(1);
-        }
-    }
-    set
 }

@@ -2,7 +2,6 @@ pub mod Members
 pub mod Doubles
 mod Reading
 pub mod Fills
-pub mod Codes
 pub mod Nths
 mod Loads
 pub mod Copies

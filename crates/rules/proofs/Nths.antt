@@ -1,13 +1,12 @@
 -- What stands at a place of a list.
-use Rattle.std.proofs.Common.{◌≡◌, ℕ, zero, suc, ◌<◌, ◌≤◌, ◌⊎◌, List, [], ◌∷◌, map, length, Some, None, sym, ap, ◌∙◌, inl, inr, arith}
+use Rattle.std.proofs.Common.{◌≡◌, ℕ, zero, suc, ◌<◌, ◌≤◌, ◌⊎◌, List, [], ◌∷◌, map, length, get_or, take, Some, None, sym, ap, ◌∙◌, inl, inr, arith}
 use mathlib.Core.List.{Memᴰ}
 use Rattle.std.specs.List.{range_with_len, slice_get}
 use Rattle.std.proofs.lemmas.List.FromFn.{length-map-range_with_len, get_or-map-range_with_len}
-use Rattle.std.proofs.lemmas.List.{same_lists}
-use Rattle.std.proofs.lemmas.Option.{slice_get-get_or, slice_get_past}
+use Rattle.std.proofs.lemmas.List.{get_or-take, length-take-le, same_lists}
+use Rattle.std.proofs.lemmas.Option.{slice_get-get_or}
 use Rattle.std.proofs.lemmas.Bool.{cases_lt}
 use Rattle.rules.specs.Rules.{◌∈◌}
-use Rattle.rules.specs.Loaded.{Answered}
 
 pub some_same : {X : Type 0} (x y : X) → Some x ≡ Some y → x ≡ y
 some_same x y e = cc
@@ -24,13 +23,6 @@ pub member_nth : {X : Type 0} (xs : List X) (x : X) → x ∈ xs → (i : ℕ) �
 member_nth [] x m = elim m [ ]
 member_nth (y ∷ ys) x (Memᴰ.head e) = (zero, ap Some (sym e))
 member_nth (y ∷ ys) x (Memᴰ.tail m) = let (i, e) = member_nth ys x m in (suc i, e)
-
-pub nth_within : {X : Type 0} (xs : List X) (i : ℕ) (x : X) → slice_get xs i ≡ Some x → i < length xs
-nth_within xs i x e = go (cases_lt i (length xs))
-  where
-    go : (i < length xs) ⊎ (length xs ≤ i) → i < length xs
-    go (inl h) = h
-    go (inr h) = absurd (some_none x (sym e ∙ slice_get_past xs i h))
 
 pub nth_none : {X : Type 0} (d : X) (xs : List X) (i : ℕ) → slice_get xs i ≡ None → length xs ≤ i
 nth_none d xs i e = go (cases_lt i (length xs))
@@ -52,17 +44,8 @@ counted_is f xs n long each =
     let inside : k < n = omega arith in
     get_or-map-range_with_len f 0 n k k d inside (omega arith) ∙ some_same _ _ (sym (each k inside) ∙ slice_get-get_or xs k d (omega arith)))
 
--- how many answers there are
-pub answered_length : {X : Type 0} (d : X) (xs : List X) (P : ℕ → X → Type 0) (count : ℕ) → length xs ≤ 32 → Answered (slice_get xs) P count → count ≡ length xs
-answered_length d xs P count few a =
-    let low : length xs ≤ count = low_by (cases_lt count 32) in
-    let high : count ≤ length xs = high_by count a in
-    omega arith
-  where
-    low_by : (count < 32) ⊎ (32 ≤ count) → length xs ≤ count
-    low_by (inl h) = nth_none d xs count (a.all h)
-    low_by (inr h) = omega arith
-
-    high_by : (n : ℕ) → Answered (slice_get xs) P n → n ≤ length xs
-    high_by zero b = omega arith
-    high_by (suc n) b = let (x, e, p) = b.each n (omega arith) in omega (arith, nth_within xs n x e)
+-- the front of a list, by the index
+pub counted_take : {X : Type 0} (d : X) (xs : List X) (n : ℕ) → n ≤ length xs → map (λ k. get_or xs k d) (range_with_len 0 n) ≡ take n xs
+counted_take d xs n few =
+    let long = length-take-le n xs few in
+    counted_is (λ k. get_or xs k d) (take n xs) n (sym long) (λ k h. slice_get-get_or (take n xs) k d (omega arith) ∙ ap Some (get_or-take n xs k d h))

@@ -1,5 +1,6 @@
 -- The doubled form of a rule: an equality rule that says the same.
-use Rattle.std.specs.Prelude.{ℕ, ◌+◌, Bool, false, cond, ◌||◌, ◌↔◌, List, [], ◌∷◌, ◌++◌, map, ◌==◌}
+use Rattle.std.specs.Prelude.{ℕ, ◌+◌, Bool, cond, ◌↔◌, List, [], ◌++◌, map, ◌==◌}
+use Rattle.std.specs.List.{list_any}
 use Rattle.rules.specs.declared.term.Term.{Term}
 use Rattle.rules.specs.declared.term.Term.TheVariants.{Constant, Variable}
 use Rattle.rules.specs.declared.term.Kind.{Kind}
@@ -9,8 +10,7 @@ use Rattle.rules.specs.Books.{WellFormed}
 
 -- whether a number stands in a list
 abbrev pub holds : List ℕ → ℕ → Bool
-holds [] v = false
-holds (x ∷ xs) v = x == v || holds xs v
+holds xs v = list_any (λ x. x == v) xs
 
 -- a term in the second copy of a pattern: a left variable stays, and every other variable v is the symbol 32 + v
 abbrev pub copied : List ℕ → Term → Term

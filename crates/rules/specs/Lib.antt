@@ -3,4 +3,5 @@ pub mod Books
 pub mod Laws
 pub mod Doubled
 pub mod Faults
+pub mod Printed
 pub mod Loaded

@@ -1,42 +1,34 @@
 -- The rule that a loaded rule means.
-use Rattle.std.specs.Prelude.{◌≡◌, ℕ, ◌-◌, ◌<◌, ◌≤◌, cond, List, [], map, length, Some, None, Option, nat_lt, slice_index, slice_index_or}
+use Rattle.std.specs.Prelude.{◌≡◌, ℕ, ◌<◌, ◌≤◌, List, [], map, length, Some, None, Option, slice_index, slice_index_or}
 use Rattle.std.specs.List.{range_with_len, slice_get}
 use Rattle.rules.specs.declared.term.Term.{Term}
 use Rattle.rules.specs.declared.term.Term.TheVariants.{Constant, Variable}
-use Rattle.rules.specs.declared.loaded.CodeRow.{CodeRow}
-use Rattle.rules.specs.declared.loaded.CodePair.{CodePair}
+use Rattle.rules.specs.declared.loaded.TermRow.{TermRow}
 use Rattle.rules.specs.declared.loaded.LoadedRule.{LoadedRule}
 use Rattle.rules.specs.Rules.{◌∈◌, Rule}
-use Rattle.rules.specs.Books.{base, BookMeaning, Known, Small, WellFormed}
+use Rattle.rules.specs.Books.{base, BookMeaning, Known, WellFormed}
 use Rattle.rules.specs.Doubled.{doubled}
 
--- the term of a code
-unfoldable pub term_of : ℕ → Term
-term_of c = cond (nat_lt c base) (Constant c) (Variable (c - base))
+abbrev pub no_term : Term
+no_term = Constant 0
 
-abbrev pub no_codes : CodeRow
-no_codes = record { codes = [] }
+abbrev pub no_row : TermRow
+no_row = record { terms = [] }
 
-abbrev pub no_pair : CodePair
-no_pair = record { one = 0; other = 0 }
+-- the term in row i and column j
+abbrev pub loaded_term : LoadedRule → ℕ → ℕ → Term
+loaded_term l i j = slice_index_or (slice_index_or l.rows i no_row).terms j no_term
 
--- the code in row i and column j
-abbrev pub code_at : LoadedRule → ℕ → ℕ → ℕ
-code_at l i j = slice_index (slice_index_or l.rows i no_codes).codes j
-
--- the two codes of pair k
-abbrev pub one_at : LoadedRule → ℕ → ℕ
-one_at l k = (slice_index_or l.pairs k no_pair).one
-
-abbrev pub other_at : LoadedRule → ℕ → ℕ
-other_at l k = (slice_index_or l.pairs k no_pair).other
+-- pair k
+abbrev pub loaded_pair : LoadedRule → ℕ → Term × Term
+loaded_pair l k = slice_index_or l.pairs k (no_term, no_term)
 
 -- left variable k
 abbrev pub left_var : LoadedRule → ℕ → ℕ
 left_var l k = slice_index l.left k
 
 abbrev pub meant_row : LoadedRule → ℕ → List Term
-meant_row l i = map (λ j. term_of (code_at l i j)) (range_with_len 0 l.width)
+meant_row l i = map (loaded_term l i) (range_with_len 0 l.width)
 
 -- the rule that it means
 abbrev pub meant : LoadedRule → Rule
@@ -44,7 +36,7 @@ meant l = record {
   kind = l.kind;
   pattern = map (meant_row l) (range_with_len 0 l.row_count);
   left = map (left_var l) (range_with_len 0 l.left_count);
-  pairs = map (λ k. (term_of (one_at l k), term_of (other_at l k))) (range_with_len 0 l.pair_count);
+  pairs = map (loaded_pair l) (range_with_len 0 l.pair_count);
 }
 
 -- a constant, or one of the 64 symbols of a doubled form
@@ -83,24 +75,15 @@ pub record DoubledOf (b : BookMeaning) (i : ℕ) (d : LoadedRule) : Type 0 where
 
 -- below: how a rule is read and doubled
 
--- its counts are within its arrays, and its codes are constants or variables
+-- its counts are within its arrays
 pub record Sized (l : LoadedRule) : Type 0 where
   pub width : l.width ≤ 8
   pub rows : l.row_count ≤ 4
   pub lefts : l.left_count ≤ 32
   pub pairs : l.pair_count ≤ 32
-  pub codes : (i j : ℕ) → i < l.row_count → j < l.width → code_at l i j < 16777248
-  pub others : (k : ℕ) → k < l.pair_count → other_at l k < 16777248
 
--- the code of a term
-abbrev pub Codes : Term → ℕ → Type 0
-Codes t c = Small t → term_of c ≡ t
-
-abbrev pub CodesPair : Term × Term → CodePair → Type 0
-CodesPair p c = Codes p.0 c.one × Codes p.1 c.other
-
--- the first `count` answers, each of which P says how it is held, and all of them if there are less than 32
-pub record Answered {X : Type 0} (ask : ℕ → Option X) (P : ℕ → X → Type 0) (count : ℕ) : Type 0 where
-  pub few : count ≤ 32
-  pub each : (k : ℕ) → k < count → (x : X) × (ask k ≡ Some x) × P k x
-  pub all : count < 32 → ask count ≡ None
+-- the first `count` of these places hold the answers, and there is no further one unless the places are full
+pub record Filled {X : Type 0} (asks : ℕ → Option X → Type 0) (places : List X) (count : ℕ) : Type 0 where
+  pub few : count ≤ length places
+  pub each : (k : ℕ) → k < count → (x : X) × asks k (Some x) × (slice_get places k ≡ Some x)
+  pub all : count < length places → asks count None

@@ -1,79 +1,63 @@
 // The doubled form of a rule, as plain data.
-ghost use Rattle.std.specs.Prelude.{◌≡◌, ℕ, ◌+◌, ◌<◌, ◌≤◌, length, MatchOption, slice_index, slice_index_or};
-ghost use Rattle.rules.specs.Doubled.{copied, doubled, holds};
-ghost use Rattle.rules.specs.Loaded.{code_at, DoubledOf, meant, no_codes, no_pair, OfBook, one_at, other_at, Sized, term_of};
+ghost use Rattle.std.specs.Prelude.{◌≡◌, ℕ, ◌+◌, ◌<◌, ◌≤◌, length, take, MatchOption, slice_index_or};
+ghost use Rattle.rules.specs.Books.{Small};
+ghost use Rattle.rules.specs.Doubled.{copied, doubled};
+ghost use Rattle.rules.specs.Loaded.{DoubledOf, loaded_pair, loaded_term, meant, no_row, no_term, OfBook, Sized};
 
 use crate::book::Book;
 use crate::load::load;
-use crate::loaded::{CodePair, CodeRow, LoadedRule};
-use crate::term::Kind;
+use crate::loaded::{LoadedRule, TermRow};
+use crate::term::{Kind, Term};
 
-fn is_left(rule: &LoadedRule, v: u32) -> bool
-    requires { rule.now.left_count ≤ 32 }
-    ensures { result ≡ holds (meant rule.now).left v }
+// The term in the second copy: a left variable stays, any other variable v is the symbol 32 + v.
+fn copied(left: &[u8], term: Term) -> Term
+    requires { Small term }
+    ensures { result ≡ copied left.now term }
 {
-    for k in 0..rule.left_count {
-        if rule.left[k] as u32 == v {
-            return true;
-        }
-    }
-    false
-}
-
-// The code in the second copy: a left variable stays, any other variable v is the symbol 32 + v.
-fn copied_code(rule: &LoadedRule, code: u32) -> u32
-    requires left { rule.now.left_count ≤ 32 }
-    requires code { code < 16777248 }
-    ensures { term_of result ≡ copied (meant rule.now).left (term_of code) }
-{
-    if code < 16777216 {
-        return code;
-    }
-    if is_left(rule, code - 16777216) {
-        code
-    } else {
-        code + 32
+    match term {
+        Term::Constant(_) => term,
+        Term::Variable(v) if left.contains(&v) => term,
+        Term::Variable(v) => Term::Variable(32 + v),
     }
 }
 
-fn copied_row(rule: &LoadedRule, row: usize) -> CodeRow
+fn copied_row(rule: &LoadedRule, row: &TermRow) -> TermRow
+    requires lefts { rule.now.left_count ≤ 32 }
+    requires width { rule.now.width ≤ 8 }
+    requires small { (j : ℕ) → j < rule.now.width → Small (slice_index_or row.now.terms j no_term) }
+    ensures { (j : ℕ) → j < rule.now.width → slice_index_or result.terms j no_term ≡ copied (meant rule.now).left (slice_index_or row.now.terms j no_term) }
+{
+    let mut terms = row.terms;
+    for term in &mut terms[..rule.width] {
+        *term = copied(rule.left(), *term);
+    }
+    TermRow { terms }
+}
+
+// The rows of the pattern, and then their copies. What it asks of the rule is asked of the pairs and of the whole too: a
+// type that carried it would be made for these three steps of one call.
+fn doubled_rows(rule: &LoadedRule) -> [TermRow; 8]
+    requires of { OfBook rule.now }
     requires sized { Sized rule.now }
-    requires row { row < rule.now.row_count }
-    ensures { (j : ℕ) → j < rule.now.width → term_of (slice_index result.codes j) ≡ copied (meant rule.now).left (term_of (code_at rule.now row j)) }
+    ensures first { (i : ℕ) → i < rule.now.row_count → slice_index_or result i no_row ≡ slice_index_or rule.now.rows i no_row }
+    ensures second { (i : ℕ) → i < rule.now.row_count → (j : ℕ) → j < rule.now.width → slice_index_or (slice_index_or result (rule.now.row_count + i) no_row).terms j no_term ≡ copied (meant rule.now).left (loaded_term rule.now i j) }
 {
-    let mut codes: [u32; 8] = [0; 8];
-    for column in 0..rule.width {
-        codes[column] = copied_code(rule, rule.rows[row].codes[column]);
-    }
-    CodeRow { codes }
-}
-
-// The rows of the pattern, and then their copies.
-fn doubled_rows(rule: &LoadedRule) -> [CodeRow; 8]
-    requires { Sized rule.now }
-    ensures first { (i : ℕ) → i < rule.now.row_count → slice_index_or result i no_codes ≡ slice_index_or rule.now.rows i no_codes }
-    ensures second { (i : ℕ) → i < rule.now.row_count → (j : ℕ) → j < rule.now.width → term_of (slice_index (slice_index_or result (rule.now.row_count + i) no_codes).codes j) ≡ copied (meant rule.now).left (term_of (code_at rule.now i j)) }
-{
-    let mut rows = [CodeRow { codes: [0; 8] }; 8];
-    for row in 0..rule.row_count {
-        rows[row] = rule.rows[row];
-        rows[rule.row_count + row] = copied_row(rule, row);
+    let mut rows = rule.rows;
+    for (k, row) in rule.rows().iter().enumerate() {
+        rows[rule.row_count + k] = copied_row(rule, row);
     }
     rows
 }
 
 // The second side of each pair is read in the second copy.
-fn doubled_pairs(rule: &LoadedRule) -> [CodePair; 32]
-    requires { Sized rule.now }
-    ensures { (k : ℕ) → k < rule.now.pair_count → ((slice_index_or result k no_pair).one ≡ one_at rule.now k) × (term_of (slice_index_or result k no_pair).other ≡ copied (meant rule.now).left (term_of (other_at rule.now k))) }
+fn doubled_pairs(rule: &LoadedRule) -> [(Term, Term); 32]
+    requires of { OfBook rule.now }
+    requires sized { Sized rule.now }
+    ensures { (k : ℕ) → k < rule.now.pair_count → slice_index_or result k (no_term, no_term) ≡ ((loaded_pair rule.now k).0, copied (meant rule.now).left (loaded_pair rule.now k).1) }
 {
-    let mut pairs = [CodePair { one: 0, other: 0 }; 32];
-    for k in 0..rule.pair_count {
-        let pair = rule.pairs[k];
-        pairs[k] = CodePair {
-            one: pair.one,
-            other: copied_code(rule, pair.other),
-        };
+    let mut pairs = rule.pairs;
+    for pair in &mut pairs[..rule.pair_count] {
+        pair.1 = copied(rule.left(), pair.1);
     }
     pairs
 }
@@ -85,21 +69,14 @@ fn doubled_of(rule: &LoadedRule) -> LoadedRule
     ensures width { result.width ≡ rule.now.width }
 {
     match rule.kind {
-        Kind::Functional => {
-            let rows = doubled_rows(rule);
-            let pairs = doubled_pairs(rule);
-            let left = rule.left;
-            LoadedRule {
-                kind: Kind::Equality,
-                width: rule.width,
-                rows,
-                row_count: rule.row_count + rule.row_count,
-                left,
-                left_count: 0,
-                pairs,
-                pair_count: rule.pair_count,
-            }
-        }
+        Kind::Functional => LoadedRule {
+            kind: Kind::Equality,
+            rows: doubled_rows(rule),
+            row_count: rule.row_count + rule.row_count,
+            left_count: 0,
+            pairs: doubled_pairs(rule),
+            ..*rule
+        },
         Kind::Equality => *rule,
     }
 }
@@ -108,8 +85,5 @@ fn doubled_of(rule: &LoadedRule) -> LoadedRule
 pub fn load_doubled<B: Book>(book: &B, rule: usize) -> Option<LoadedRule>
     ensures { MatchOption result (length (B.meaning book.now).rules ≤ rule) (DoubledOf (B.meaning book.now) rule) }
 {
-    match load(book, rule) {
-        Some(loaded) => Some(doubled_of(&loaded)),
-        None => None,
-    }
+    Some(doubled_of(&load(book, rule)?))
 }

@@ -7,6 +7,8 @@ pub mod fault;
 pub mod laws;
 pub mod load;
 pub mod loaded;
+mod printing;
 pub mod refusal;
 mod refusing;
+mod slices;
 pub mod term;

@@ -5,14 +5,14 @@ ghost use Rattle.rules.specs.Faults.{book_refusal};
 use crate::fault::BookFault;
 use crate::refusal::{Layer, Refusal};
 
-impl BookFault {
-    pub fn refusal(self) -> Refusal
-        ensures { result ≡ book_refusal self }
-    {
+impl From<BookFault> for Refusal {
+    ghost from_gives = { λ fault r. r ≡ book_refusal fault };
+
+    fn from(fault: BookFault) -> Refusal {
         Refusal {
             number: 7,
             layer: Layer::Book,
-            place: self.place,
+            place: fault.place,
         }
     }
 }

@@ -1,39 +1,29 @@
 -- From codes to rules: what is kept, and where it is broken.
-use Rattle.std.proofs.Common.{◌≡◌, ℕ, ◌+◌, ◌-◌, ◌<◌, ◌≤◌, ◌⊎◌, List, [], ◌++◌, map, length, get_or, Some, sym, refl, ap, ◌∙◌, subst, inl, inr, arith}
+use Rattle.std.proofs.Common.{◌≡◌, ℕ, ◌+◌, ◌-◌, ◌<◌, ◌≤◌, List, [], ◌++◌, map, length, get_or, Some, sym, refl, ap, ◌∙◌, subst, arith}
 use mathlib.Core.List.{map-map}
 use Rattle.std.specs.List.{range_with_len, slice_get}
 use Rattle.std.proofs.lemmas.List.FromFn.{length-map-range_with_len, get_or-map-range_with_len}
 use Rattle.std.proofs.lemmas.List.{length-map, length-append, get_or-map, get_or_append_left, get_or-append_right}
-use Rattle.std.proofs.lemmas.Option.{slice_get-get_or}
-use Rattle.std.proofs.lemmas.Bool.{cases_lt, cond-true}
+use Rattle.std.proofs.lemmas.Option.{slice_get-get_or, slice_get_within}
+use Rattle.std.proofs.lemmas.Bool.{cond-true}
 use Rattle.rules.specs.declared.term.Term.{Term}
 use Rattle.rules.specs.declared.term.Term.TheVariants.{Constant}
 use Rattle.rules.specs.declared.term.Kind.{Kind}
 use Rattle.rules.specs.declared.term.Kind.TheVariants.{Functional, Equality}
 use Rattle.rules.specs.declared.loaded.LoadedRule.{LoadedRule}
 use Rattle.rules.specs.Rules.{◌∈◌, Relation, Pattern, Valuation, Rule, at, Places, Agree, Keeps}
-use Rattle.rules.specs.Books.{PairOf, WellFormed}
+use Rattle.rules.specs.Books.{WellFormed}
 use Rattle.rules.specs.Doubled.{holds, copied, doubled}
-use Rattle.rules.specs.Loaded.{code_at, left_var, one_at, other_at, term_of, meant_row, meant, OfBook}
-use Rattle.rules.proofs.Codes.{term_constant, term_variable}
+use Rattle.rules.specs.Loaded.{loaded_term, left_var, loaded_pair, meant_row, meant, OfBook}
 use Rattle.rules.proofs.Copies.{counted-member, member_counted}
 use Rattle.rules.proofs.Doubles.{after, at-copied, at_same, doubling}
 use Rattle.rules.proofs.Members.{map_on, holds-member}
-use Rattle.rules.proofs.Nths.{some_same, nth_member, member_nth, nth_within, nth_counted, counted_is}
+use Rattle.rules.proofs.Nths.{some_same, nth_member, member_nth, nth_counted, counted_is}
 use Rattle.search.specs.declared.spot.Spot.{Spot}
+use Rattle.search.proofs.Sounds.{pair_twice}
 use Rattle.search.specs.Spots.{Sends, second_from, used, Break}
-use Rattle.search.specs.Placings.{value, place, Lands, AllPlaced, AllJoin, AllAgree, SameLeft, SplitAt, PartedAt}
-use Rattle.search.proofs.Valuations.{value-constant, value-symbol}
-
-pub value-at : (f : Valuation) (c : ℕ) → value f c ≡ at f (term_of c)
-value-at f c = go (cases_lt c 16777216)
-  where
-    go : (c < 16777216) ⊎ (16777216 ≤ c) → value f c ≡ at f (term_of c)
-    go (inl h) = value-constant f c h ∙ sym (ap (at f) (term_constant c h))
-    go (inr h) = value-symbol f c h ∙ sym (ap (at f) (term_variable c h))
-
-value-left : (f : Valuation) (v : ℕ) → value f (16777216 + v) ≡ f v
-value-left f v = let back : 16777216 + v - 16777216 ≡ v = omega arith in value-symbol f (16777216 + v) (omega arith) ∙ ap f back
+use Rattle.search.specs.Placings.{place, Lands, AllPlaced, AllJoin, AllAgree, SameLeft, SplitAt, PartedAt}
+use Rattle.rules.specs.Rules.{at}
 
 -- what sends rows to places is a placing
 pub sends_places : (f : Valuation) (rel : Relation) (p : Pattern) (places : List ℕ) (from : ℕ) → Sends f rel p places from → Places f p rel
@@ -44,23 +34,23 @@ agree_self Functional left f = λ v m. refl
 agree_self Equality left f = λ v. refl
 
 module _ (rel : Relation) (l : LoadedRule) where
-  row_is : (f : Valuation) (i : ℕ) → map (at f) (meant_row l i) ≡ map (λ j. at f (term_of (code_at l i j))) (range_with_len 0 l.width)
-  row_is f i = map-map (at f) (λ j. term_of (code_at l i j)) (range_with_len 0 l.width)
+  row_is : (f : Valuation) (i : ℕ) → map (at f) (meant_row l i) ≡ map (λ j. at f (loaded_term l i j)) (range_with_len 0 l.width)
+  row_is f i = map-map (at f) (loaded_term l i) (range_with_len 0 l.width)
 
   lands_nth : (f : Valuation) (i k : ℕ) → Lands rel l f i k → slice_get rel k ≡ Some (map (at f) (meant_row l i))
   lands_nth f i k lands =
       slice_get-get_or rel k [] lands.within
-      ∙ ap Some (sym (row_is f i ∙ counted_is (λ j. at f (term_of (code_at l i j))) (get_or rel k []) l.width (sym lands.wide) (λ j h. slice_get-get_or (get_or rel k []) j 0 (omega (arith, lands.wide)) ∙ ap Some (sym (lands.cells j h) ∙ value-at f (code_at l i j)))))
+      ∙ ap Some (sym (row_is f i ∙ counted_is (λ j. at f (loaded_term l i j)) (get_or rel k []) l.width (sym lands.wide) (λ j h. slice_get-get_or (get_or rel k []) j 0 (omega (arith, lands.wide)) ∙ ap Some (sym (lands.cells j h)))))
 
   nth_lands : (f : Valuation) (i k : ℕ) → slice_get rel k ≡ Some (map (at f) (meant_row l i)) → Lands rel l f i k
   nth_lands f i k e = record {
     within = within;
-    wide = ap length row ∙ ap length (row_is f i) ∙ length-map-range_with_len (λ j. at f (term_of (code_at l i j))) 0 l.width;
-    cells = λ j h. value-at f (code_at l i j) ∙ sym (ap (λ r. get_or r j 0) (row ∙ row_is f i) ∙ get_or-map-range_with_len (λ j. at f (term_of (code_at l i j))) 0 l.width j j 0 h (omega arith));
+    wide = ap length row ∙ ap length (row_is f i) ∙ length-map-range_with_len (λ j. at f (loaded_term l i j)) 0 l.width;
+    cells = λ j h. sym (ap (λ r. get_or r j 0) (row ∙ row_is f i) ∙ get_or-map-range_with_len (λ j. at f (loaded_term l i j)) 0 l.width j j 0 h (omega arith));
   }
     where
       within : k < length rel
-      within = nth_within rel k (map (at f) (meant_row l i)) e
+      within = slice_get_within rel k (map (at f) (meant_row l i)) e
 
       row : get_or rel k [] ≡ map (at f) (meant_row l i)
       row = some_same _ _ (sym (slice_get-get_or rel k [] within) ∙ e)
@@ -75,21 +65,18 @@ module _ (rel : Relation) (l : LoadedRule) where
 
   sends : (f : Valuation) (places : List ℕ) (from : ℕ) → ((i : ℕ) → i < l.row_count → Lands rel l f i (get_or places (from + i) 0)) → Sends f rel (meant l).pattern places from
   sends f places from lands i row e =
-      let inside : i < l.row_count = omega (arith, nth_within (meant l).pattern i row e, rows-count) in
+      let inside : i < l.row_count = omega (arith, slice_get_within (meant l).pattern i row e, rows-count) in
       let is : meant_row l i ≡ row = some_same _ _ (sym (nth_counted (meant_row l) l.row_count i inside) ∙ e) in
       subst (λ x. slice_get rel (get_or places (from + i) 0) ≡ Some (map (at f) x)) is (lands_nth f i (get_or places (from + i) 0) (lands i inside))
-
-  abbrev meant_pair : ℕ → Term × Term
-  meant_pair k = (term_of (one_at l k), term_of (other_at l k))
 
   -- an equality rule
   module _ (equality : l.kind ≡ Equality) where
     pub keeps_equality : AllJoin rel l → Keeps rel (meant l)
     keeps_equality joins f g c p m =
-        let (k, h, e) = member_counted meant_pair l.pair_count p m in
+        let (k, h, e) = member_counted (loaded_pair l) l.pair_count p m in
         let same = subst (λ x. Agree x (meant l).left f g) equality c.agree in
         subst (λ (x : Term × Term). at f x.0 ≡ at g x.1) e
-        (sym (value-at f (one_at l k)) ∙ joins f (placed_all f c.first) k h ∙ value-at f (other_at l k) ∙ at_same f g same (term_of (other_at l k)))
+        (joins f (placed_all f c.first) k h ∙ at_same f g same (loaded_pair l k).1)
 
     break_equality : (s : Spot) (p : List ℕ) → ((i : ℕ) → i < l.row_count → get_or s.places i 0 ≡ place p i) → ((i : ℕ) → l.row_count ≤ i → get_or s.places i 0 ≡ 0) → SplitAt rel l p s.pair s.one s.other → Break rel (meant l) s
     break_equality s p here rest split = record {
@@ -99,10 +86,10 @@ module _ (rel : Relation) (l : LoadedRule) where
       first_rows = first;
       second_rows = subst (λ k. Sends split.f rel (meant l).pattern s.places (second_from k (length (meant l).pattern))) (sym equality) first;
       unused = λ i h. rest i (subst (λ n. n ≤ i) rows-count (subst (λ k. used k (length (meant l).pattern) ≤ i) equality h));
-      sides = meant_pair s.pair;
-      pair = nth_counted meant_pair l.pair_count s.pair split.splits.within;
-      on_first = sym (value-at split.f (one_at l s.pair)) ∙ split.splits.on_one;
-      on_second = sym (value-at split.f (other_at l s.pair)) ∙ split.splits.on_other;
+      sides = loaded_pair l s.pair;
+      pair = nth_counted (loaded_pair l) l.pair_count s.pair split.splits.within;
+      on_first = split.splits.on_first;
+      on_second = split.splits.on_second;
       differ = split.splits.differ;
     }
       where
@@ -117,18 +104,13 @@ module _ (rel : Relation) (l : LoadedRule) where
 
   -- a functional rule
   module _ (functional : l.kind ≡ Functional) (of : OfBook l) where
-    same_term : (k : ℕ) → k < l.pair_count → term_of (one_at l k) ≡ term_of (other_at l k)
-    same_term k h =
-        let (v, e) = subst (λ x. PairOf x (meant_pair k)) functional (of.fits.pairs_fit (meant_pair k) (counted-member meant_pair l.pair_count k h)) in
-        ap (λ (x : Term × Term). x.0) e ∙ sym (ap (λ (x : Term × Term). x.1) e)
-
     pub keeps_functional : AllAgree rel l → Keeps rel (meant l)
     keeps_functional agree f g c p m =
-        let (k, h, e) = member_counted meant_pair l.pair_count p m in
+        let (k, h, e) = member_counted (loaded_pair l) l.pair_count p m in
         let same = subst (λ x. Agree x (meant l).left f g) functional c.agree in
-        let left : SameLeft l f g = λ j hj. value-left f (left_var l j) ∙ same (left_var l j) (counted-member (left_var l) l.left_count j hj) ∙ sym (value-left g (left_var l j)) in
+        let left : SameLeft l f g = λ j hj. same (left_var l j) (counted-member (left_var l) l.left_count j hj) in
         subst (λ (x : Term × Term). at f x.0 ≡ at g x.1) e
-        (sym (value-at f (one_at l k)) ∙ agree f g (placed_all f c.first) (placed_all g c.second) left k h ∙ value-at g (one_at l k) ∙ ap (at g) (same_term k h))
+        (agree f g (placed_all f c.first) (placed_all g c.second) left k h ∙ ap (at g) (pair_twice l functional of k h))
 
     break_functional : (s : Spot) (p q : List ℕ) → ((i : ℕ) → i < l.row_count → get_or s.places i 0 ≡ place p i) → ((i : ℕ) → i < l.row_count → get_or s.places (l.row_count + i) 0 ≡ place q i) → ((i : ℕ) → l.row_count + l.row_count ≤ i → get_or s.places i 0 ≡ 0)
         → PartedAt rel l p q s.pair s.one s.other → Break rel (meant l) s
@@ -143,10 +125,10 @@ module _ (rel : Relation) (l : LoadedRule) where
       first_rows = first;
       second_rows = subst (λ k. Sends parted.g rel (meant l).pattern s.places (second_from k (length (meant l).pattern))) (sym functional) (subst (Sends parted.g rel (meant l).pattern s.places) (sym rows-count) second);
       unused = λ i h. rest i (subst (λ n. n + n ≤ i) rows-count (subst (λ k. used k (length (meant l).pattern) ≤ i) functional h));
-      sides = meant_pair s.pair;
-      pair = nth_counted meant_pair l.pair_count s.pair parted.parts.within;
-      on_first = sym (value-at parted.f (one_at l s.pair)) ∙ parted.parts.on_first;
-      on_second = sym (ap (at parted.g) (same_term s.pair parted.parts.within)) ∙ sym (value-at parted.g (one_at l s.pair)) ∙ parted.parts.on_second;
+      sides = loaded_pair l s.pair;
+      pair = nth_counted (loaded_pair l) l.pair_count s.pair parted.parts.within;
+      on_first = parted.parts.on_first;
+      on_second = parted.parts.on_second;
       differ = parted.parts.differ;
     }
       where
@@ -159,7 +141,7 @@ module _ (rel : Relation) (l : LoadedRule) where
         agree : (v : ℕ) → v ∈ (meant l).left → parted.f v ≡ parted.g v
         agree v m =
             let (j, h, e) = member_counted (left_var l) l.left_count v m in
-            subst (λ x. parted.f x ≡ parted.g x) e (sym (value-left parted.f (left_var l j)) ∙ parted.same j h ∙ value-left parted.g (left_var l j))
+            subst (λ x. parted.f x ≡ parted.g x) e (parted.same j h)
 
     pub break_parting : (s : Spot) (p q : List ℕ) (k a b : ℕ) → s.pair ≡ k → s.one ≡ a → s.other ≡ b → ((i : ℕ) → i < l.row_count → get_or s.places i 0 ≡ place p i) → ((i : ℕ) → i < l.row_count → get_or s.places (l.row_count + i) 0 ≡ place q i) → ((i : ℕ) → l.row_count + l.row_count ≤ i → get_or s.places i 0 ≡ 0)
         → PartedAt rel l p q k a b → Break rel (meant l) s
@@ -181,13 +163,13 @@ module _ (rel : Relation) (pattern : Pattern) (left : List ℕ) (pairs : List (T
 
   nth_first : (i : ℕ) (row : List Term) → slice_get pattern i ≡ Some row → slice_get (pattern ++ copies) i ≡ Some row
   nth_first i row e =
-      let inside = nth_within pattern i row e in
+      let inside = slice_get_within pattern i row e in
       let long = length-append pattern copies in
       slice_get-get_or (pattern ++ copies) i [] (omega arith) ∙ ap Some (get_or_append_left pattern copies [] i inside) ∙ sym (slice_get-get_or pattern i [] inside) ∙ e
 
   nth_second : (i : ℕ) (row : List Term) → slice_get pattern i ≡ Some row → slice_get (pattern ++ copies) (length pattern + i) ≡ Some (map (copied left) row)
   nth_second i row e =
-      let inside = nth_within pattern i row e in
+      let inside = slice_get_within pattern i row e in
       let long = length-append pattern copies in
       let twice = length-map pattern (map (copied left)) in
       let back : length pattern + i - length pattern ≡ i = omega arith in
@@ -226,13 +208,13 @@ module _ (rel : Relation) (pattern : Pattern) (left : List ℕ) (pairs : List (T
       alike v m = sym (ap b.f (cond-true (holds left v) v (32 + v) (holds-member left v m)))
 
       inside : s.pair < length pairs
-      inside = subst (λ n. s.pair < n) (length-map pairs copied_pair) (nth_within (map copied_pair pairs) s.pair b.sides b.pair)
+      inside = subst (λ n. s.pair < n) (length-map pairs copied_pair) (slice_get_within (map copied_pair pairs) s.pair b.sides b.pair)
 
       q : Term × Term
       q = get_or pairs s.pair none
 
       is : copied_pair q ≡ b.sides
-      is = some_same _ _ (ap Some (sym (get_or-map copied_pair pairs s.pair none none inside)) ∙ sym (slice_get-get_or (map copied_pair pairs) s.pair none (nth_within (map copied_pair pairs) s.pair b.sides b.pair)) ∙ b.pair)
+      is = some_same _ _ (ap Some (sym (get_or-map copied_pair pairs s.pair none none inside)) ∙ sym (slice_get-get_or (map copied_pair pairs) s.pair none (slice_get_within (map copied_pair pairs) s.pair b.sides b.pair)) ∙ b.pair)
 
   -- an equality rule is its own doubled form, but for its left variables, which it has none of
   same_break : (s : Spot) → Break rel (doubled (record { kind = Equality; pattern = pattern; left = left; pairs = pairs })) s → Break rel (record { kind = Equality; pattern = pattern; left = left; pairs = pairs }) s

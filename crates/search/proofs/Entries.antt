@@ -1,36 +1,20 @@
 -- What a relation answers, and what stands past its end.
-use Rattle.std.proofs.Common.{◌≡◌, ℕ, zero, suc, ◌<◌, ◌≤◌, ◌⊎◌, List, [], ◌∷◌, length, get_or, replicate, Some, None, sym, refl, ap, ◌∙◌, subst, inl, inr, arith}
+use Rattle.std.proofs.Common.{◌≡◌, ℕ, zero, suc, ◌<◌, ◌≤◌, List, [], ◌∷◌, length, get_or, Some, None, unwrap_or, sym, refl, ap, ◌∙◌, arith}
 use Rattle.std.specs.List.{slice_get}
 use Rattle.std.proofs.lemmas.List.FromFn.{length-map-range_with_len, get_or-map-range_with_len}
-use Rattle.std.proofs.lemmas.List.{length-map, length-replicate, get_or-map, get_or_past, get_or-replicate}
-use Rattle.std.proofs.lemmas.Bool.{cases_lt}
-use Rattle.std.proofs.lemmas.Option.{slice_get-get_or, slice_get_past}
-use Rattle.rules.proofs.Nths.{some_same, some_none, nth_member}
+use Rattle.std.proofs.lemmas.List.{length-map, get_or-map}
+use Rattle.std.proofs.lemmas.Option.{slice_get-get_or, slice_get_past, unwrap_or-slice_get}
+use Rattle.rules.proofs.Nths.{nth_member}
 use Rattle.rules.specs.Books.{within}
 use Rattle.rules.specs.Rules.{Relation, OfWidth}
 use Rattle.search.specs.declared.row.Row.{Row}
 use Rattle.search.specs.Relations.{entry_at, front, cut}
 
-row_some : (row : List ℕ) (j x : ℕ) → Some x ≡ slice_get row j → x ≡ get_or row j 0
-row_some [] j x e = absurd (some_none x e)
-row_some (y ∷ ys) zero x e = some_same x y e
-row_some (y ∷ ys) (suc j) x e = row_some ys j x e
-
-row_none : (row : List ℕ) (j : ℕ) → None ≡ slice_get row j → 0 ≡ get_or row j 0
-row_none [] j e = refl
-row_none (y ∷ ys) zero e = absurd (some_none y (sym e))
-row_none (y ∷ ys) (suc j) e = row_none ys j e
-
-pub entry-some : (rel : Relation) (k j x : ℕ) → Some x ≡ entry_at rel k j → x ≡ get_or (get_or rel k []) j 0
-entry-some [] k j x e = absurd (some_none x e)
-entry-some (r ∷ rs) zero j x e = row_some r j x e
-entry-some (r ∷ rs) (suc k) j x e = entry-some rs k j x e
-
 -- what stands outside a relation reads as 0
-pub entry-none : (rel : Relation) (k j : ℕ) → None ≡ entry_at rel k j → 0 ≡ get_or (get_or rel k []) j 0
-entry-none [] k j e = refl
-entry-none (r ∷ rs) zero j e = row_none r j e
-entry-none (r ∷ rs) (suc k) j e = entry-none rs k j e
+pub entry_default : (rel : Relation) (k j : ℕ) → unwrap_or (entry_at rel k j) 0 ≡ get_or (get_or rel k []) j 0
+entry_default [] k j = refl
+entry_default (r ∷ rs) zero j = unwrap_or-slice_get r j 0
+entry_default (r ∷ rs) (suc k) j = entry_default rs k j
 
 pub fitting : (w : ℕ) (rel : Relation) → OfWidth w rel → (k : ℕ) → k < length rel → length (get_or rel k []) ≡ w
 fitting w rel even k h = even (get_or rel k []) (nth_member rel k (get_or rel k []) (slice_get-get_or rel k [] h))
@@ -60,10 +44,3 @@ module _ (width : ℕ) (rows : List Row) where
   cut-wide k j h l =
       let long = length-map-range_with_len (λ j. get_or (get_or rows k no_row).entries j 0) 0 width in
       sym (ap (λ o. within o (λ row. slice_get row j)) (cut-row k h) ∙ slice_get_past (front width (get_or rows k no_row)) j (omega arith))
-
-pub zeros : (n k : ℕ) → ◌≡◌ {A = ℕ} (get_or (replicate n 0) k 0) 0
-zeros n k = go (cases_lt k n)
-  where
-    go : (k < n) ⊎ (n ≤ k) → ◌≡◌ {A = ℕ} (get_or (replicate n 0) k 0) 0
-    go (inl h) = get_or-replicate n k 0 0 h
-    go (inr h) = get_or_past (replicate n 0) k 0 (subst (λ x. x ≤ k) (sym (length-replicate n 0)) h)

@@ -2,13 +2,14 @@
 use Rattle.std.proofs.Common.{◌≡◌, ℕ, suc, ◌+◌, ◌-◌, ◌*◌, ◌^◌, ◌<◌, ◌≤◌, List, length, get_or, set, replicate, Some, None, Option, sym, refl, ap, ◌∙◌, subst, mul-le-mul_right, suc-mul, arith, below_more, MatchOption}
 use native.Mathlib.Nat.{pow-zero, pow-succ', pow-le-pow_left, pow-le-pow_right}
 use Rattle.rules.specs.declared.loaded.LoadedRule.{LoadedRule}
-use Rattle.rules.specs.Loaded.{one_at}
+use Rattle.rules.specs.Loaded.{loaded_pair}
+use Rattle.rules.specs.Rules.{at}
 use Rattle.search.specs.declared.plan.Plan.{Plan}
 use Rattle.search.specs.declared.choices.Choices.{Choices}
 use Rattle.search.specs.declared.seen.Seen.{Seen}
 use Rattle.search.specs.declared.seen.Parting.{Parting}
-use Rattle.search.specs.Placings.{filled, left_code, place, Lands, Landed, Origins, Groupable, SameLeft, SameRight, AllAgree, With, Bounded, choices, Picks, chosen}
-use Rattle.search.specs.Seens.{entry, Fine, Grows, Old, Went, Covered, Covers, Tried, Turn, PartingAt}
+use Rattle.search.specs.Placings.{choice_count, filled, left_term, place, Lands, Landed, Origins, Groupable, SameLeft, SameRight, SameSides, AllAgree, With, Bounded, choices, Picks, chosen}
+use Rattle.search.specs.Seens.{Fine, Grows, Went, Covered, Covers, Tried, Turn, PartingAt}
 use Rattle.search.proofs.Plans.{filled-early, filled-stands}
 use Rattle.search.proofs.Walks.{place_other, tried_clash, tried_next, tried_all}
 
@@ -35,10 +36,12 @@ module _ (rel : List (List ℕ)) (rule : LoadedRule) (plan : Plan) where
   )
 
   pub grow_tried : (s t : Seen) (depth : ℕ) (p : List ℕ) (k : ℕ) → Grows s t → Tried rel rule plan s depth p k → Tried rel rule plan t depth p k
-  grow_tried s t depth p k grows tried f lands at placed = grow_covered s t f grows (tried f lands at placed)
+  grow_tried s t depth p k grows tried f lands by_case placed = grow_covered s t f grows (tried f lands by_case placed)
 
-  pub covered_old : (seen : Seen) (p : List ℕ) (e : ℕ) → Old rel rule plan seen p e → SameRight rule (filled rel plan (entry seen e)) (filled rel plan p) → Covered rel rule plan seen (filled rel plan p)
-  covered_old seen p e (h, l) r = (e, h, (λ k hk. sym (l k hk)), (λ k hk. sym (r k hk)))
+  -- a right variable is both sides of its pair
+  pub right_sides : {D : Type 0} (f g : ℕ → ℕ) (P : D → Type 0) → Groupable rule → (o : Option D) → MatchOption o (SameSides rule f g) P → MatchOption o (SameRight rule f g) P
+  right_sides f g P groupable None same = λ k h. same k h ∙ ap (at g) (sym (groupable.twice k h))
+  right_sides f g P groupable (Some d) parts = parts
 
   pub fine_empty : (seen : Seen) → seen.used ≡ 0 → ((b : ℕ) → b < 1024 → get_or seen.heads b 0 ≡ 0) → Fine rel rule plan seen
   fine_empty seen none heads = record {
@@ -62,13 +65,13 @@ module _ (rel : List (List ℕ)) (rule : LoadedRule) (plan : Plan) where
     pub covers_here : (seen : Seen) (depth : ℕ) (p : List ℕ) → depth ≡ rule.row_count → Groupable rule → Covered rel rule plan seen (filled rel plan p) → Covers rel rule plan seen depth p
     covers_here seen depth p e sound (x, h, l, r) f lands placed =
         let all : (i : ℕ) → i < rule.row_count → Lands rel rule f i (place p i) = λ i k. lands i (omega arith) in
-        (x, h, (λ k hk. filled-stands rel rule plan origins p f all (left_code rule k) (sound.lefts k hk).stands ∙ l k hk), (λ k hk. filled-stands rel rule plan origins p f all (one_at rule k) (sound.sound.ones k hk).stands ∙ r k hk))
+        (x, h, (λ k hk. filled-stands rel rule plan origins p f all (left_term rule k) (sound.lefts k hk).stands ∙ l k hk), (λ k hk. filled-stands rel rule plan origins p f all (loaded_pair rule k).0 (sound.sound.ones k hk).stands ∙ r k hk))
 
     -- a placing of the table with these left and right numbers covers all that goes on from here
     pub covers_early : (seen : Seen) (n depth : ℕ) (p : List ℕ) → Bounded rule n → n ≤ depth → Covered rel rule plan seen (filled rel plan p) → Covers rel rule plan seen depth p
     covers_early seen n depth p bounded le (x, h, l, r) f lands placed =
         let early : (i : ℕ) → i < n → Lands rel rule f i (place p i) = λ i k. lands i (omega arith) in
-        (x, h, (λ k hk. filled-early rel rule plan origins p f n bounded.few early (left_code rule k) (bounded.lefts k hk) ∙ l k hk), (λ k hk. filled-early rel rule plan origins p f n bounded.few early (one_at rule k) (bounded.rights k hk) ∙ r k hk))
+        (x, h, (λ k hk. filled-early rel rule plan origins p f n bounded.few early (left_term rule k) (bounded.lefts k hk) ∙ l k hk), (λ k hk. filled-early rel rule plan origins p f n bounded.few early (loaded_pair rule k).0 (bounded.rights k hk) ∙ r k hk))
 
     module _ (depth k : ℕ) (p : List ℕ) (within : depth < rule.row_count) where
       -- one placing of the last row covers all, where no left or right code needs that row
@@ -76,15 +79,15 @@ module _ (rel : List (List ℕ)) (rule : LoadedRule) (plan : Plan) where
       covers_last seen n bounded le last landed covers f lands placed =
           let (x, h, l, r) = covers (filled rel plan (set p depth k)) landed (λ i low high. absurd (omega arith)) in
           let early : (i : ℕ) → i < n → Lands rel rule f i (place (set p depth k) i) = λ i hi. subst (Lands rel rule f i) (sym (place_other p depth k i (λ q. omega arith))) (lands i (omega arith)) in
-          (x, h, (λ c hc. filled-early rel rule plan origins (set p depth k) f n bounded.few early (left_code rule c) (bounded.lefts c hc) ∙ l c hc), (λ c hc. filled-early rel rule plan origins (set p depth k) f n bounded.few early (one_at rule c) (bounded.rights c hc) ∙ r c hc))
+          (x, h, (λ c hc. filled-early rel rule plan origins (set p depth k) f n bounded.few early (left_term rule c) (bounded.lefts c hc) ∙ l c hc), (λ c hc. filled-early rel rule plan origins (set p depth k) f n bounded.few early (loaded_pair rule c).0 (bounded.rights c hc) ∙ r c hc))
 
   module _ (d : Choices) where
     -- how many choices are left
     pub choices-end : (depth : ℕ) → depth ≡ rule.row_count → choices d rule depth ≡ 1
-    choices-end depth e = let z : rule.row_count - depth ≡ 0 = omega arith in ap (λ x. d.count ^ x) z ∙ pow-zero d.count
+    choices-end depth e = let z : rule.row_count - depth ≡ 0 = omega arith in ap (λ x. (choice_count d) ^ x) z ∙ pow-zero (choice_count d)
 
-    pub choices-step : (depth : ℕ) → depth < rule.row_count → choices d rule depth ≡ d.count * choices d rule (depth + 1)
-    choices-step depth h = let z : rule.row_count - depth ≡ suc (rule.row_count - (depth + 1)) = omega arith in ap (λ x. d.count ^ x) z ∙ pow-succ' d.count (rule.row_count - (depth + 1))
+    pub choices-step : (depth : ℕ) → depth < rule.row_count → choices d rule depth ≡ (choice_count d) * choices d rule (depth + 1)
+    choices-step depth h = let z : rule.row_count - depth ≡ suc (rule.row_count - (depth + 1)) = omega arith in ap (λ x. (choice_count d) ^ x) z ∙ pow-succ' (choice_count d) (rule.row_count - (depth + 1))
 
     pub row_step : (row m : ℕ) → row * m + m ≡ (row + 1) * m
     row_step row m = let z : row + 1 ≡ suc row = omega arith in sym (ap (λ x. x * m) z ∙ suc-mul row m)
@@ -92,9 +95,9 @@ module _ (rel : List (List ℕ)) (rule : LoadedRule) (plan : Plan) where
     pub row_room : (row n m : ℕ) → row < n → row * m + m ≤ n * m
     row_room row n m h = subst (λ x. x ≤ n * m) (sym (row_step row m)) (mul-le-mul_right m (omega arith))
 
-    pub choices-all : rule.row_count ≤ 4 → d.count ≤ 8 → choices d rule 0 ≤ 4096
+    pub choices-all : rule.row_count ≤ 4 → (choice_count d) ≤ 8 → choices d rule 0 ≤ 4096
     choices-all four few =
-        let a : d.count ^ (rule.row_count - 0) ≤ 8 ^ (rule.row_count - 0) = pow-le-pow_left few (rule.row_count - 0) in
+        let a : (choice_count d) ^ (rule.row_count - 0) ≤ 8 ^ (rule.row_count - 0) = pow-le-pow_left few (rule.row_count - 0) in
         let b : 8 ^ (rule.row_count - 0) ≤ 8 ^ 4 = pow-le-pow_right {n = 8} (omega arith) {i = rule.row_count - 0} {j = 4} (omega arith) in
         omega (arith, a, b)
 
@@ -107,11 +110,11 @@ module _ (rel : List (List ℕ)) (rule : LoadedRule) (plan : Plan) where
     pub turn_none : (s : Seen) (depth : ℕ) (p : List ℕ) → Fine rel rule plan s → Turn rel rule plan d s s depth p 0
     turn_none s depth p fine = (went_most s s 0 (0 * choices d rule (depth + 1)) (went_none s fine) (omega arith), λ k h. absurd (omega arith))
 
-    pub turn_all : (s t : Seen) (depth n : ℕ) (p : List ℕ) → Picks rel d (length rel) → depth < rule.row_count → n ≡ d.count → Turn rel rule plan d s t depth p n → Went rel rule plan s t (choices d rule depth) × Covers rel rule plan t depth p
+    pub turn_all : (s t : Seen) (depth n : ℕ) (p : List ℕ) → Picks rel d → depth < rule.row_count → n ≡ (choice_count d) → Turn rel rule plan d s t depth p n → Went rel rule plan s t (choices d rule depth) × Covers rel rule plan t depth p
     turn_all s t depth n p picks within all (went, tried) = (subst (Went rel rule plan s t) (ap (λ x. x * choices d rule (depth + 1)) all ∙ sym (choices-step depth within)) went, tried_all rel rule plan (Covered rel rule plan t) d depth n p picks within (omega arith) tried)
 
-    pub turn_room : (s t : Seen) (depth n : ℕ) (p : List ℕ) → depth < rule.row_count → n < d.count → Turn rel rule plan d s t depth p n → s.used + choices d rule depth ≤ 4096 → t.used + choices d rule (depth + 1) ≤ 4096
-    turn_room s t depth n p within more (went, tried) room = omega (arith, went.little, room, choices-step depth within, row_room n d.count (choices d rule (depth + 1)) more)
+    pub turn_room : (s t : Seen) (depth n : ℕ) (p : List ℕ) → depth < rule.row_count → n < (choice_count d) → Turn rel rule plan d s t depth p n → s.used + choices d rule depth ≤ 4096 → t.used + choices d rule (depth + 1) ≤ 4096
+    turn_room s t depth n p within more (went, tried) room = omega (arith, went.little, room, choices-step depth within, row_room n (choice_count d) (choices d rule (depth + 1)) more)
 
     module _ (origins : Origins rule plan) (s t : Seen) (depth row k : ℕ) (p : List ℕ) (is : k ≡ chosen d row) (long : depth < length p) (within : depth < rule.row_count) where
       pub turn_clash : Turn rel rule plan d s t depth p row → (Lands rel rule (filled rel plan (set p depth k)) depth (place (set p depth k) depth) → ⊥) → Turn rel rule plan d s t depth p (row + 1)
@@ -120,10 +123,10 @@ module _ (rel : List (List ℕ)) (rule : LoadedRule) (plan : Plan) where
         below_more _ _ tried (subst (λ x. With rel rule depth p x (Covered rel rule plan t)) is (tried_clash rel rule plan origins depth k p long within (Covered rel rule plan t) clash)),
       )
 
-      pub turn_last : (u : Seen) (n : ℕ) → row < d.count → Bounded rule n → n ≤ depth → depth + 1 ≡ rule.row_count → Turn rel rule plan d s t depth p row → Landed rel rule plan (set p depth k) (depth + 1)
+      pub turn_last : (u : Seen) (n : ℕ) → row < (choice_count d) → Bounded rule n → n ≤ depth → depth + 1 ≡ rule.row_count → Turn rel rule plan d s t depth p row → Landed rel rule plan (set p depth k) (depth + 1)
           → Went rel rule plan t u (choices d rule (depth + 1)) × Covers rel rule plan u (depth + 1) (set p depth k) → Went rel rule plan s u (choices d rule depth) × Covers rel rule plan u depth p
       turn_last u n inside bounded le last (went, tried) landed (more, covers) = (
-        went_most s u (row * choices d rule (depth + 1) + choices d rule (depth + 1)) (choices d rule depth) (went_on s t u (row * choices d rule (depth + 1)) (choices d rule (depth + 1)) went more) (omega (arith, choices-step depth within, row_room row d.count (choices d rule (depth + 1)) inside)),
+        went_most s u (row * choices d rule (depth + 1) + choices d rule (depth + 1)) (choices d rule depth) (went_on s t u (row * choices d rule (depth + 1)) (choices d rule (depth + 1)) went more) (omega (arith, choices-step depth within, row_room row (choice_count d) (choices d rule (depth + 1)) inside)),
         covers_last origins depth k p within u n bounded le last landed covers,
       )
 
@@ -138,7 +141,7 @@ pub first-grouped : (rel : List (List ℕ)) (rule : LoadedRule) (plan : Plan) (d
     → MatchOption o (Went rel rule plan s t (choices d rule 1) × Covers rel rule plan t 1 (set (replicate 4 0) 0 k)) (PartingAt rel rule)
     → MatchOption o (Went rel rule plan s t (choices d rule 1) × Tried rel rule plan t 0 (replicate 4 0) m) (PartingAt rel rule)
 first-grouped rel rule plan d origins s t k m is some None (went, covers) = (went, subst (λ x. With rel rule 0 (replicate 4 0) x (Covered rel rule plan t)) is (tried_next rel rule plan origins 0 k (replicate 4 0) (omega arith) some (Covered rel rule plan t) covers))
-first-grouped rel rule plan d origins s t k m is some (Some p) at = at
+first-grouped rel rule plan d origins s t k m is some (Some p) by_case = by_case
 
 module _ (rel : List (List ℕ)) (rule : LoadedRule) (plan : Plan) (d : Choices) where
   -- one more choice for the first row was tried
@@ -149,5 +152,5 @@ module _ (rel : List (List ℕ)) (rule : LoadedRule) (plan : Plan) (d : Choices)
   )
 
   -- each of its places was tried
-  pub all_grouped : (s t : Seen) (n : ℕ) → Picks rel d (length rel) → 0 < rule.row_count → d.count ≤ n → Turn rel rule plan d s t 0 (replicate 4 0) n → AllAgree rel rule
+  pub all_grouped : (s t : Seen) (n : ℕ) → Picks rel d → 0 < rule.row_count → (choice_count d) ≤ n → Turn rel rule plan d s t 0 (replicate 4 0) n → AllAgree rel rule
   all_grouped s t n picks some le (went, tried) = keeps_all rel rule plan t (replicate 4 0) went.fine (tried_all rel rule plan (Covered rel rule plan t) d 0 n (replicate 4 0) picks some le tried)

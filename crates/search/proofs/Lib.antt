@@ -1,4 +1,4 @@
-mod Valuations
+mod Fronts
 mod Entries
 mod Plans
 mod Picked

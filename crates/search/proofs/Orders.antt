@@ -1,16 +1,18 @@
 -- A rule with its rows in another order.
 use Rattle.std.proofs.Common.{◌≡◌, ℕ, zero, suc, ◌<◌, ◌≤◌, List, [], ◌∷◌, sym, refl, ap, ◌∙◌, subst, inl, inr, arith}
-use Rattle.rules.specs.declared.loaded.CodeRow.{CodeRow}
+use Rattle.rules.specs.declared.term.Term.{Term}
+use Rattle.rules.specs.declared.loaded.TermRow.{TermRow}
 use Rattle.rules.specs.declared.loaded.LoadedRule.{LoadedRule}
-use Rattle.rules.specs.Loaded.{code_at}
-use Rattle.search.specs.Placings.{value, place, Lands, Placed, Early, KnownCode, Groupable, AllAgree, PartedAt, SameRow, arranged, Rearranges, PutsBack}
+use Rattle.rules.specs.Loaded.{loaded_term, Symbolic}
+use Rattle.search.specs.Placings.{place, Lands, Placed, Early, KnownTerm, Groupable, AllAgree, PartedAt, SameRow, arranged, Rearranges, PutsBack}
+use Rattle.rules.specs.Rules.{at}
 
-module _ (rel : List (List ℕ)) (rule : LoadedRule) (rows : List CodeRow) where
+module _ (rel : List (List ℕ)) (rule : LoadedRule) (rows : List TermRow) where
   there : (f : ℕ → ℕ) (i j k : ℕ) → SameRow rule i (arranged rule rows) j → Lands rel rule f i k → Lands rel (arranged rule rows) f j k
-  there f i j k same lands = record { within = lands.within; wide = lands.wide; cells = λ c h. ap (value f) (same c h) ∙ lands.cells c h }
+  there f i j k same lands = record { within = lands.within; wide = lands.wide; cells = λ c h. ap (at f) (same c h) ∙ lands.cells c h }
 
   back : (f : ℕ → ℕ) (i j k : ℕ) → SameRow rule i (arranged rule rows) j → Lands rel (arranged rule rows) f j k → Lands rel rule f i k
-  back f i j k same lands = record { within = lands.within; wide = lands.wide; cells = λ c h. ap (value f) (sym (same c h)) ∙ lands.cells c h }
+  back f i j k same lands = record { within = lands.within; wide = lands.wide; cells = λ c h. ap (at f) (sym (same c h)) ∙ lands.cells c h }
 
   module _ (places : List ℕ) (re : Rearranges rule (arranged rule rows) places) where
     placed_there : (f : ℕ → ℕ) → ((i : ℕ) → i < rule.row_count → Placed rel rule f i) → (j : ℕ) → j < rule.row_count → Placed rel (arranged rule rows) f j
@@ -29,21 +31,24 @@ module _ (rel : List (List ℕ)) (rule : LoadedRule) (rows : List CodeRow) where
 
     pub parted_back : (p q a b : List ℕ) (r x y : ℕ) → PutsBack places rule.row_count p a → PutsBack places rule.row_count q b
         → PartedAt rel (arranged rule rows) p q r x y → PartedAt rel rule a b r x y
-    parted_back p q a b r x y pa qb at = record {
-      f = at.f;
-      g = at.g;
-      lands_first = lands_back at.f p a pa at.lands_first;
-      lands_second = lands_back at.g q b qb at.lands_second;
-      same = at.same;
-      parts = record { within = at.parts.within; on_first = at.parts.on_first; on_second = at.parts.on_second; differ = at.parts.differ };
+    parted_back p q a b r x y pa qb parted = record {
+      f = parted.f;
+      g = parted.g;
+      lands_first = lands_back parted.f p a pa parted.lands_first;
+      lands_second = lands_back parted.g q b qb parted.lands_second;
+      same = parted.same;
+      parts = record { within = parted.parts.within; on_first = parted.parts.on_first; on_second = parted.parts.on_second; differ = parted.parts.differ };
     }
 
-    known-there : (c : ℕ) → KnownCode rule c → KnownCode (arranged rule rows) c
-    known-there c known = record { fits = known.fits; stands = stands-there c known.stands }
-      where
-        stands-there : (c : ℕ) → Early rule rule.row_count c → Early (arranged rule rows) rule.row_count c
-        stands-there c (inl low) = inl low
-        stands-there c (inr (i, j, hi, hj, e)) = let (w, same) = re.back i hi in inr (place places i, j, w, hj, same j hj ∙ e)
+    stands_there : (t : Term) → Early rule rule.row_count t → Early (arranged rule rows) rule.row_count t
+    unfolding Early
+    stands_there t early = elim early [
+      | inl constant ↦ inl constant
+      | inr (i, j, hi, hj, e) ↦ let (w, same) = re.back i hi in inr (place places i, j, w, hj, same j hj ∙ e)
+    ]
+
+    known-there : (t : Term) → KnownTerm rule t → KnownTerm (arranged rule rows) t
+    known-there t known = record { fits = known.fits; stands = stands_there t known.stands }
 
     pub groupable_there : Groupable rule → Groupable (arranged rule rows)
     groupable_there groupable = record {
@@ -52,25 +57,26 @@ module _ (rel : List (List ℕ)) (rule : LoadedRule) (rows : List CodeRow) where
         rows = groupable.sound.rows;
         width = groupable.sound.width;
         pairs = groupable.sound.pairs;
-        codes = λ j hj c hc. let (i, hi, same) = re.each j hj in subst (λ x. x < 16777280) (sym (same c hc)) (groupable.sound.codes i hi c hc);
+        terms = λ j hj c hc. let (i, hi, same) = re.each j hj in subst Symbolic (sym (same c hc)) (groupable.sound.terms i hi c hc);
         ones = λ k h. known-there _ (groupable.sound.ones k h);
         others = λ k h. known-there _ (groupable.sound.others k h);
       };
       few = groupable.few;
       left = groupable.left;
       lefts = λ l h. known-there _ (groupable.lefts l h);
+      twice = groupable.twice;
     }
 
 -- in their own order
 pub in_place : (rule : LoadedRule) → rule.row_count ≤ 4 → Rearranges rule rule (0 ∷ 1 ∷ 2 ∷ 3 ∷ [])
-in_place rule few = record { back = λ i h. (subst (λ x. x < rule.row_count) (sym (at i (omega arith))) h, λ c k. ap (λ x. code_at rule x c) (at i (omega arith))); each = λ j h. (j, h, λ c k. refl) }
+in_place rule few = record { back = λ i h. (subst (λ x. x < rule.row_count) (sym (by_case i (omega arith))) h, λ c k. ap (λ x. loaded_term rule x c) (by_case i (omega arith))); each = λ j h. (j, h, λ c k. refl) }
   where
-    at : (i : ℕ) → i < 4 → place (0 ∷ 1 ∷ 2 ∷ 3 ∷ []) i ≡ i
-    at zero h = refl
-    at (suc zero) h = refl
-    at (suc (suc zero)) h = refl
-    at (suc (suc (suc zero))) h = refl
-    at (suc (suc (suc (suc i)))) h = absurd (omega arith)
+    by_case : (i : ℕ) → i < 4 → place (0 ∷ 1 ∷ 2 ∷ 3 ∷ []) i ≡ i
+    by_case zero h = refl
+    by_case (suc zero) h = refl
+    by_case (suc (suc zero)) h = refl
+    by_case (suc (suc (suc zero))) h = refl
+    by_case (suc (suc (suc (suc i)))) h = absurd (omega arith)
 
 -- and in another
 module _ (rel : List (List ℕ)) (own rule : LoadedRule) (places : List ℕ) (same : rule ≡ arranged own rule.rows) (order : Rearranges own rule places) where
@@ -84,4 +90,4 @@ module _ (rel : List (List ℕ)) (own rule : LoadedRule) (places : List ℕ) (sa
   keeps_order agree = keeps_back rel own rule.rows places re (subst (AllAgree rel) same agree)
 
   pub parted_order : (p q a b : List ℕ) (r x y : ℕ) → PutsBack places own.row_count p a → PutsBack places own.row_count q b → PartedAt rel rule p q r x y → PartedAt rel own a b r x y
-  parted_order p q a b r x y pa qb at = parted_back rel own rule.rows places re p q a b r x y pa qb (subst (λ z. PartedAt rel z p q r x y) same at)
+  parted_order p q a b r x y pa qb parted = parted_back rel own rule.rows places re p q a b r x y pa qb (subst (λ z. PartedAt rel z p q r x y) same parted)

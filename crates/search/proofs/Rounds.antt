@@ -2,14 +2,14 @@
 use Rattle.std.proofs.Common.{◌≡◌, ℕ, ◌+◌, ◌-◌, ◌%◌, ◌<◌, ◌≤◌, List, [], length, get_or, Some, None, Option, sym, ap, ◌∙◌, subst, mod-lt, mod-eq_of_lt, arith, below_more, MatchOption}
 use native.Mathlib.Nat.{add-mod-mod, add-mod_right, mod-add-mod}
 use Rattle.std.specs.List.{slice_get}
-use Rattle.std.proofs.lemmas.Option.{slice_get-get_or, slice_get_past}
+use Rattle.std.proofs.lemmas.Option.{slice_get-get_or, slice_get_past, slice_get_within}
 use Rattle.rules.specs.declared.term.Kind.TheVariants.{Equality}
 use Rattle.rules.specs.declared.loaded.LoadedRule.{LoadedRule}
 use Rattle.rules.specs.Rules.{◌∈◌, Relation, Rule, Keeps}
 use Rattle.rules.specs.Books.{BookMeaning, WellFormed, WellFormedBook}
 use Rattle.rules.specs.Doubled.{doubled}
 use Rattle.rules.specs.Loaded.{DoubledOf, meant}
-use Rattle.rules.proofs.Nths.{member_nth, nth_member, nth_within, some_none, some_same}
+use Rattle.rules.proofs.Nths.{member_nth, nth_member, some_none, some_same}
 use Rattle.search.specs.declared.spot.Spot.{Spot}
 use Rattle.search.specs.Spots.{Found, Looked, LookedAt, Quiet, turned}
 use Rattle.search.proofs.Breaks.{keeps_doubled, undouble}
@@ -29,7 +29,7 @@ turn_of n first i h =
 pub quiet_round : (rel : Relation) (rules : List Rule) (first turns : ℕ) → length rules ≤ turns → Quiet rel rules first turns → (r : Rule) → r ∈ rules → Keeps rel r
 quiet_round rel rules first turns all quiet r m =
     let (i, e) = member_nth rules r m in
-    let (t, h, is) = turn_of (length rules) first i (nth_within rules i r e) in
+    let (t, h, is) = turn_of (length rules) first i (slice_get_within rules i r e) in
     quiet t (omega arith) r (ap (slice_get rules) is ∙ e)
 
 module _ (rel : Relation) (rules : List Rule) (first : ℕ) where
@@ -62,10 +62,6 @@ module _ (rel : Relation) (rules : List Rule) (first : ℕ) where
       let there : slice_get rules number ≡ Some (get_or rules number no_rule) = slice_get-get_or rules number no_rule inside in
       let (broken, e) = looked (get_or rules number no_rule) there in
       record { turn = turn; in_turn = h; its_turn = e ∙ is; broken = get_or rules number no_rule; there = ap (slice_get rules) e ∙ there; break = broken }
-
--- a look at a rule of the book
-pub looked_past : (rel : Relation) (rules : List Rule) (i : ℕ) (o : Option Spot) → length rules ≤ i → LookedAt rel rules i o
-looked_past rel rules i o past r e = absurd (some_none r (sym e ∙ slice_get_past rules i past))
 
 pub looked_is : (rel : Relation) (rules : List Rule) (i : ℕ) (q : Rule) (o : Option Spot) → slice_get rules i ≡ Some q → Looked rel q i o → LookedAt rel rules i o
 looked_is rel rules i q o there looked r e = subst (λ x. Looked rel x i o) (some_same q r (sym there ∙ e)) looked

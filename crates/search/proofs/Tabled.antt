@@ -1,9 +1,10 @@
 -- A table of placings with one more.
-use Rattle.std.proofs.Common.{◌≡◌, ℕ, zero, suc, ◌+◌, ◌-◌, ◌/◌, ◌^◌, ◌<◌, ◌≤◌, ◌⊎◌, List, length, get_or, set, sym, refl, ap, ◌∙◌, subst, inl, inr, add-one, arith}
+use Rattle.std.proofs.Common.{◌≡◌, ℕ, zero, suc, ◌+◌, ◌-◌, ◌/◌, ◌^◌, ◌<◌, ◌≤◌, ◌⊎◌, List, length, get_or, set, sym, refl, ap, ◌∙◌, subst, inl, inr, arith}
 use Rattle.std.proofs.lemmas.List.{get_or-set_same, get_or-set_other}
 use Rattle.std.proofs.lemmas.Bool.{cases_eq, cases_lt}
-use Rattle.rules.specs.Loaded.{one_at}
-use Rattle.search.specs.Placings.{value, filled, left_code, Landed, SameLeft, SameRight}
+use Rattle.rules.specs.Loaded.{loaded_pair}
+use Rattle.search.specs.Placings.{filled, left_term, Landed, SameLeft, SameRight}
+use Rattle.rules.specs.Rules.{at}
 use Rattle.search.specs.Seens.{entry, no_placing, mix, hashed, bucket, Link, Linked, Walk, Fine, New, Went, Covered}
 use Rattle.rules.specs.declared.loaded.LoadedRule.{LoadedRule}
 use Rattle.search.specs.declared.plan.Plan.{Plan}
@@ -18,17 +19,7 @@ one_more seen p b = record {
   used = seen.used + 1;
 }
 
-pub cleared : (xs : List ℕ) (b : ℕ) → b < length xs → ((k : ℕ) → k < b → get_or xs k 0 ≡ 0) → (k : ℕ) → k < b + 1 → get_or (set xs b 0) k 0 ≡ 0
-cleared xs b long zeros k h = at (cases_eq k b)
-  where
-    at : (k ≡ b) ⊎ (k ≡ b → ⊥) → get_or (set xs b 0) k 0 ≡ 0
-    at (inl e) = ap (λ x. get_or (set xs b 0) x 0) e ∙ get_or-set_same xs b 0 0 long
-    at (inr ne) = get_or-set_other xs b k 0 0 ne ∙ zeros k (omega arith)
-
 module _ (rel : List (List ℕ)) (rule : LoadedRule) (plan : Plan) where
-  pub hash_more : (p : List ℕ) (n h x r : ℕ) → h ≡ hashed rel rule plan p n → x ≡ value (filled rel plan p) (left_code rule n) → r ≡ mix h x → r ≡ hashed rel rule plan p (n + 1)
-  hash_more p n h x r eh ex er = er ∙ ap (λ y. mix y x) eh ∙ ap (mix (hashed rel rule plan p n)) ex ∙ ap (hashed rel rule plan p) (sym (add-one n))
-
   pub hash_bucket : (p : List ℕ) (n h : ℕ) → h ≡ hashed rel rule plan p n → n ≡ rule.left_count → h / 2 ^ 54 ≡ bucket rel rule plan p
   unfolding bucket
   hash_bucket p n h e all = ap (λ x. x / 2 ^ 54) (e ∙ ap (hashed rel rule plan p) all)
@@ -43,7 +34,7 @@ module _ (rel : List (List ℕ)) (rule : LoadedRule) (plan : Plan) where
   same_hash : (p q : List ℕ) (n : ℕ) → n ≤ rule.left_count → SameLeft rule (filled rel plan p) (filled rel plan q) → hashed rel rule plan p n ≡ hashed rel rule plan q n
   same_hash p q zero le same = refl
   same_hash p q (suc n) le same =
-      ap (λ h. mix h (value (filled rel plan p) (left_code rule n))) (same_hash p q n (omega arith) same)
+      ap (λ h. mix h (at (filled rel plan p) (left_term rule n))) (same_hash p q n (omega arith) same)
       ∙ ap (mix (hashed rel rule plan q n)) (same n (omega arith))
 
   pub same_bucket : (p q : List ℕ) → SameLeft rule (filled rel plan p) (filled rel plan q) → bucket rel rule plan p ≡ bucket rel rule plan q
@@ -85,21 +76,21 @@ module _ (rel : List (List ℕ)) (rule : LoadedRule) (plan : Plan) where
     new_entry e q = ap (entry (one_more seen p b)) q ∙ ap (λ x. x.rows) (get_or-set_same seen.placings seen.used p no_placing (omega arith))
 
     more_lands : Fine rel rule plan seen → Landed rel rule plan p.rows rule.row_count → (e : ℕ) → e < seen.used + 1 → Landed rel rule plan (entry (one_more seen p b) e) rule.row_count
-    more_lands fine lands e h = at (cases_eq e seen.used)
+    more_lands fine lands e h = by_case (cases_eq e seen.used)
       where
-        at : (e ≡ seen.used) ⊎ (e ≡ seen.used → ⊥) → Landed rel rule plan (entry (one_more seen p b) e) rule.row_count
-        at (inl q) = subst (λ x. Landed rel rule plan x rule.row_count) (sym (new_entry e q)) lands
-        at (inr ne) = subst (λ x. Landed rel rule plan x rule.row_count) (sym (old_entry e (omega arith))) (fine.lands e (omega arith))
+        by_case : (e ≡ seen.used) ⊎ (e ≡ seen.used → ⊥) → Landed rel rule plan (entry (one_more seen p b) e) rule.row_count
+        by_case (inl q) = subst (λ x. Landed rel rule plan x rule.row_count) (sym (new_entry e q)) lands
+        by_case (inr ne) = subst (λ x. Landed rel rule plan x rule.row_count) (sym (old_entry e (omega arith))) (fine.lands e (omega arith))
 
     more_apart : Fine rel rule plan seen → New rel rule plan seen p.rows → (a z : ℕ) → a < seen.used + 1 → z < seen.used + 1
         → SameLeft rule (filled rel plan (entry (one_more seen p b) a)) (filled rel plan (entry (one_more seen p b) z)) → SameRight rule (filled rel plan (entry (one_more seen p b) a)) (filled rel plan (entry (one_more seen p b) z))
-    more_apart fine new a z ha hb same = at (cases_eq a seen.used) (cases_eq z seen.used)
+    more_apart fine new a z ha hb same = by_case (cases_eq a seen.used) (cases_eq z seen.used)
       where
-        at : (a ≡ seen.used) ⊎ (a ≡ seen.used → ⊥) → (z ≡ seen.used) ⊎ (z ≡ seen.used → ⊥) → SameRight rule (filled rel plan (entry (one_more seen p b) a)) (filled rel plan (entry (one_more seen p b) z))
-        at (inl q) (inl r) = λ k h. ap (λ x. value (filled rel plan (entry (one_more seen p b) x)) (one_at rule k)) (q ∙ sym r)
-        at (inl q) (inr n) = absurd (new z (omega arith) (λ l h. sym (left_at _ _ _ _ (new_entry a q) (old_entry z (omega arith)) same l h)))
-        at (inr m) (inl r) = absurd (new a (omega arith) (left_at _ _ _ _ (old_entry a (omega arith)) (new_entry z r) same))
-        at (inr m) (inr n) =
+        by_case : (a ≡ seen.used) ⊎ (a ≡ seen.used → ⊥) → (z ≡ seen.used) ⊎ (z ≡ seen.used → ⊥) → SameRight rule (filled rel plan (entry (one_more seen p b) a)) (filled rel plan (entry (one_more seen p b) z))
+        by_case (inl q) (inl r) = λ k h. ap (λ x. at (filled rel plan (entry (one_more seen p b) x)) (loaded_pair rule k).0) (q ∙ sym r)
+        by_case (inl q) (inr n) = absurd (new z (omega arith) (λ l h. sym (left_at _ _ _ _ (new_entry a q) (old_entry z (omega arith)) same l h)))
+        by_case (inr m) (inl r) = absurd (new a (omega arith) (left_at _ _ _ _ (old_entry a (omega arith)) (new_entry z r) same))
+        by_case (inr m) (inr n) =
             let ea = old_entry a (omega arith) in
             let eb = old_entry z (omega arith) in
             right_at _ _ _ _ (sym ea) (sym eb) (fine.apart a z (omega arith) (omega arith) (left_at _ _ _ _ ea eb same))
@@ -158,4 +149,4 @@ module _ (rel : List (List ℕ)) (rule : LoadedRule) (plan : Plan) where
     }
 
     pub add-covered : Covered rel rule plan (one_more seen p b) (filled rel plan p.rows)
-    add-covered = (seen.used, omega arith, (λ l h. ap (λ x. value (filled rel plan x) (left_code rule l)) (sym (new_entry seen.used refl))), (λ r h. ap (λ x. value (filled rel plan x) (one_at rule r)) (sym (new_entry seen.used refl))))
+    add-covered = (seen.used, omega arith, (λ l h. ap (λ x. at (filled rel plan x) (left_term rule l)) (sym (new_entry seen.used refl))), (λ r h. ap (λ x. at (filled rel plan x) (loaded_pair rule r).0) (sym (new_entry seen.used refl))))

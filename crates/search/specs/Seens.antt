@@ -6,7 +6,8 @@ use Rattle.search.specs.declared.choices.Choices.{Choices}
 use Rattle.search.specs.declared.seen.Placing.{Placing}
 use Rattle.search.specs.declared.seen.Seen.{Seen}
 use Rattle.search.specs.declared.seen.Parting.{Parting}
-use Rattle.search.specs.Placings.{value, left_code, filled, Landed, SameLeft, SameRight, From, With, PartedAt, chosen, choices}
+use Rattle.search.specs.Placings.{left_term, filled, Landed, SameLeft, SameRight, From, With, PartedAt, chosen, choices}
+use Rattle.rules.specs.Rules.{at}
 
 abbrev pub no_placing : Placing
 no_placing = record { rows = [] }
@@ -21,7 +22,7 @@ mix h x = (((h + x) % 2 ^ 64) * 11400714819323198485) % 2 ^ 64
 -- the hash of the first n left numbers
 abbrev pub hashed : List (List ℕ) → LoadedRule → Plan → List ℕ → ℕ → ℕ
 hashed rel rule plan p zero = 0
-hashed rel rule plan p (suc n) = mix (hashed rel rule plan p n) (value (filled rel plan p) (left_code rule n))
+hashed rel rule plan p (suc n) = mix (hashed rel rule plan p n) (at (filled rel plan p) (left_term rule n))
 
 unfoldable pub bucket : List (List ℕ) → LoadedRule → Plan → List ℕ → ℕ
 bucket rel rule plan p = hashed rel rule plan p rule.left_count / 2 ^ 54

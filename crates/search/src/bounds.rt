@@ -1,21 +1,25 @@
 // By which row of the pattern the left and right variables have all stood.
 ghost use Rattle.std.specs.Prelude.{◌≡◌, ℕ, ◌<◌, ◌≤◌, true};
-ghost use Rattle.rules.specs.Loaded.{one_at};
-ghost use Rattle.search.specs.Placings.{Groupable, Early, Bounded, left_code};
+ghost use Rattle.rules.specs.Loaded.{loaded_pair};
+ghost use Rattle.search.specs.Placings.{Groupable, Early, Bounded, left_term};
 
 use rules::loaded::LoadedRule;
+use rules::term::Term;
 
-fn is_early(rule: &LoadedRule, code: u32, rows: usize) -> bool
+// Whether the term is a constant, or stands in one of the first rows: by the row and the column, which the contract names;
+// of `any` over rows and terms the proof did not close.
+#[tactic(auto, unfolding(crate::specs::Placings::Early))]
+fn is_early(rule: &LoadedRule, term: Term, rows: usize) -> bool
     requires groupable { Groupable rule.now }
     requires rows { rows ≤ rule.now.row_count }
-    ensures { result ≡ true → Early rule.now rows code }
+    ensures { result ≡ true → Early rule.now rows term }
 {
-    if code < 16777216 {
+    if let Term::Constant(_) = term {
         return true;
     }
     for row in 0..rows {
         for column in 0..rule.width {
-            if rule.rows[row].codes[column] == code {
+            if rule.rows[row].terms[column] == term {
                 return true;
             }
         }
@@ -23,13 +27,14 @@ fn is_early(rule: &LoadedRule, code: u32, rows: usize) -> bool
     false
 }
 
+// Two loops, this and the next, since of `all` over either list the proof did not close.
 fn lefts_early(rule: &LoadedRule, rows: usize) -> bool
     requires groupable { Groupable rule.now }
     requires rows { rows ≤ rule.now.row_count }
-    ensures { result ≡ true → (l : ℕ) → l < rule.now.left_count → Early rule.now rows (left_code rule.now l) }
+    ensures { result ≡ true → (l : ℕ) → l < rule.now.left_count → Early rule.now rows (left_term rule.now l) }
 {
-    for l in 0..rule.left_count {
-        if !is_early(rule, 16777216 + rule.left[l] as u32, rows) {
+    for v in rule.left() {
+        if !is_early(rule, Term::Variable(*v), rows) {
             return false;
         }
     }
@@ -39,10 +44,10 @@ fn lefts_early(rule: &LoadedRule, rows: usize) -> bool
 fn rights_early(rule: &LoadedRule, rows: usize) -> bool
     requires groupable { Groupable rule.now }
     requires rows { rows ≤ rule.now.row_count }
-    ensures { result ≡ true → (k : ℕ) → k < rule.now.pair_count → Early rule.now rows (one_at rule.now k) }
+    ensures { result ≡ true → (k : ℕ) → k < rule.now.pair_count → Early rule.now rows (loaded_pair rule.now k).0 }
 {
-    for k in 0..rule.pair_count {
-        if !is_early(rule, rule.pairs[k].one, rows) {
+    for pair in rule.pairs() {
+        if !is_early(rule, pair.0, rows) {
             return false;
         }
     }

@@ -6,8 +6,5 @@ use crate::relation::Relation;
 pub(crate) fn cell<R: Relation>(relation: &R, row: usize, column: usize) -> u32
     ensures { result ≡ slice_index (slice_index_or (R.meaning relation.now).rows row []) column }
 {
-    match relation.entry(row, column) {
-        Some(number) => number,
-        None => 0,
-    }
+    relation.entry(row, column).unwrap_or(0)
 }

@@ -12,8 +12,8 @@ use rules::book::Book;
 // What a search works in. Nothing is asked of what it holds before, so one serves for any number of searches.
 #[derive(Clone, Copy)]
 pub struct Scratch {
-    seen: Seen,
-    tests: u64,
+    pub(crate) seen: Seen,
+    pub(crate) tests: u64,
 }
 
 impl Scratch {
@@ -42,8 +42,9 @@ pub fn look_plainly<R: Relation, B: Book>(
     ensures { LookedAt (R.Relation.meaning relation.now).rows (B.Book.meaning book.now).rules rule result }
 {
     let choices = choices_of(relation);
+    let count = choices.count();
     if let Some(look) = begin_doubled(relation, book, rule) {
-        for m in 0..choices.count {
+        for m in 0..count {
             if let Some(spot) = from_place(relation, &look, &choices, m, &mut scratch.tests) {
                 return Some(spot);
             }
@@ -67,21 +68,16 @@ pub fn find_break<R: Relation, B: Book>(
         return None;
     }
     let choices = choices_of(relation);
-    let most = if turns < count { turns } else { count };
+    let tries = choices.count();
+    let most = turns.min(count);
     let start = first % count;
     let mut found = None;
+    // Rules and choices in nested loops, a form that was asked for: left by label, so that the first break ends both.
     'search: for turn in 0..most {
         let number = (start + turn) % count;
         if let Some(look) = begin(relation, book, number, &mut scratch.seen) {
-            for m in 0..choices.count {
-                if let Some(spot) = look_from(
-                    relation,
-                    &look,
-                    &choices,
-                    m,
-                    &mut scratch.seen,
-                    &mut scratch.tests,
-                ) {
+            for m in 0..tries {
+                if let Some(spot) = look_from(relation, &look, &choices, m, scratch) {
                     found = Some(spot);
                     break 'search;
                 }

@@ -1,46 +1,15 @@
 // The search for a break of a functional rule among at most eight rows: placings of the one pattern, grouped by their left numbers.
 ghost use Rattle.std.specs.Prelude.{◌≡◌, ℕ, ◌+◌, ◌<◌, ◌≤◌, true, length, replicate, MatchOption};
-ghost use Rattle.search.specs.Placings.{filled, place, Groupable, Planned, Bounded, Fitting, Picks, choices as ways, Lands, Landed, chosen};
+ghost use Rattle.search.specs.Progress.{GroupReady};
+ghost use Rattle.search.specs.Placings.{choice_count, Picks, choices as ways, Landed, chosen};
 ghost use Rattle.search.specs.Seens.{Covers, Fine, PartingAt, Tried, Went};
 
-use crate::cell::cell;
-use crate::choices::{Choices, row_at};
-use crate::plan::Plan;
+use crate::choices::Choices;
+use crate::find::Scratch;
+use crate::ground::Ground;
+use crate::look::Grouping;
 use crate::relation::Relation;
-use crate::seen::{Parting, Placing, Seen, is_covered, read, settle};
-use rules::loaded::LoadedRule;
-
-// Whether the placing sends row `depth` of the pattern to its place.
-fn fits<R: Relation>(
-    relation: &R,
-    rule: &LoadedRule,
-    plan: &Plan,
-    placing: &Placing,
-    depth: usize,
-) -> bool
-    requires groupable { Groupable rule.now }
-    requires plan { Planned rule.now plan.now }
-    requires depth { depth < rule.now.row_count }
-    requires within { place placing.now.rows depth < length (R.meaning relation.now).rows }
-    requires fitting { Fitting (R.meaning relation.now).rows rule.now }
-    ensures yes { result ≡ true → Lands (R.meaning relation.now).rows rule.now (filled (R.meaning relation.now).rows plan.now placing.now.rows) depth (place placing.now.rows depth) }
-    ensures no { Lands (R.meaning relation.now).rows rule.now (filled (R.meaning relation.now).rows plan.now placing.now.rows) depth (place placing.now.rows depth) → result ≡ true }
-{
-    for t in 0..plan.tests[depth].count {
-        let column = plan.tests[depth].columns[t];
-        let number = read(
-            relation,
-            rule,
-            plan,
-            placing,
-            rule.rows[depth].codes[column],
-        );
-        if number != cell(relation, placing.rows[depth] as usize, column) {
-            return false;
-        }
-    }
-    true
-}
+use crate::seen::{Parting, Placing};
 
 // Whether one place for row `depth` is as good as any other: it is the last, and all that matters stands before it.
 fn is_last(bound: usize, depth: usize, count: usize) -> bool
@@ -51,51 +20,44 @@ fn is_last(bound: usize, depth: usize, count: usize) -> bool
 }
 
 // Places the rows of the pattern from `depth` on, row by row. The left and right variables stand in the first `bound` rows.
+// Relation, look and choices stay three here and in the other walk: that the choices are the relation's rows names a choice
+// for each row, which is no fact that a type may carry.
 fn extend<R: Relation>(
     relation: &R,
-    rule: &LoadedRule,
-    plan: &Plan,
+    look: &Grouping,
     choices: &Choices,
-    bound: usize,
     depth: usize,
     placing: Placing,
-    seen: &mut Seen,
-    tests: &mut u64,
+    scratch: &mut Scratch,
 ) -> Option<Parting>
-    requires groupable { Groupable rule.now }
-    requires plan { Planned rule.now plan.now }
-    requires bound { Bounded rule.now bound }
-    requires depth { depth ≤ rule.now.row_count }
-    requires few { length (R.meaning relation.now).rows ≤ 8 }
-    requires picks { Picks (R.meaning relation.now).rows choices.now (length (R.meaning relation.now).rows) }
-    requires fitting { Fitting (R.meaning relation.now).rows rule.now }
-    requires fine { Fine (R.meaning relation.now).rows rule.now plan.now seen.old }
-    requires room { seen.old.used + ways choices.now rule.now depth ≤ 4096 }
-    requires lands { Landed (R.meaning relation.now).rows rule.now plan.now placing.rows depth }
-    ensures { MatchOption result (Went (R.meaning relation.now).rows rule.now plan.now seen.old seen.new (ways choices.now rule.now depth) × Covers (R.meaning relation.now).rows rule.now plan.now seen.new depth placing.rows) (PartingAt (R.meaning relation.now).rows rule.now) }
+    requires ready { GroupReady (R.meaning relation.now).rows look.now }
+    requires depth { depth ≤ look.now.rule.row_count }
+    requires picks { Picks (R.meaning relation.now).rows choices.now }
+    requires fine { Fine (R.meaning relation.now).rows look.now.rule look.now.plan scratch.old.seen }
+    requires room { scratch.old.seen.used + ways choices.now look.now.rule depth ≤ 4096 }
+    requires lands { Landed (R.meaning relation.now).rows look.now.rule look.now.plan placing.rows depth }
+    ensures { MatchOption result (Went (R.meaning relation.now).rows look.now.rule look.now.plan scratch.old.seen scratch.new.seen (ways choices.now look.now.rule depth) × Covers (R.meaning relation.now).rows look.now.rule look.now.plan scratch.new.seen depth placing.rows) (PartingAt (R.meaning relation.now).rows look.now.rule) }
 {
+    let rule = &look.rule;
+    let ground = &Ground {
+        relation,
+        rule,
+        plan: &look.plan,
+    };
+    let bound = look.bound;
     if depth == rule.row_count {
-        return settle(relation, rule, plan, &placing, seen);
+        return ground.settle(&placing, &mut scratch.seen);
     }
-    if bound <= depth && is_covered(relation, rule, plan, &placing, seen) {
+    if bound <= depth && ground.is_covered(&placing, &scratch.seen) {
         return None;
     }
-    for m in 0..choices.count {
+    let count = choices.count();
+    for m in 0..count {
         let mut next = placing;
-        next.rows[depth] = row_at(choices, m) as u8;
-        *tests = tests.wrapping_add(1);
-        if fits(relation, rule, plan, &next, depth) {
-            if let Some(parting) = extend(
-                relation,
-                rule,
-                plan,
-                choices,
-                bound,
-                depth + 1,
-                next,
-                seen,
-                tests,
-            ) {
+        next.rows[depth] = choices.row(m) as u8;
+        scratch.tests = scratch.tests.wrapping_add(1);
+        if ground.lands(&next, depth) {
+            if let Some(parting) = extend(relation, look, choices, depth + 1, next, scratch) {
                 return Some(parting);
             }
             if is_last(bound, depth, rule.row_count) {
@@ -106,33 +68,32 @@ fn extend<R: Relation>(
     None
 }
 
-// Sends the first row of the pattern to choice `m`, and the further ones wherever they fit.
+// Sends the first row of the pattern to choice `m`, and the further ones wherever they fit: by the table, so apart from
+// try_place of the other walk.
 pub(crate) fn try_group<R: Relation>(
     relation: &R,
-    rule: &LoadedRule,
-    plan: &Plan,
+    look: &Grouping,
     choices: &Choices,
-    bound: usize,
     m: usize,
-    seen: &mut Seen,
-    tests: &mut u64,
+    scratch: &mut Scratch,
 ) -> Option<Parting>
-    requires groupable { Groupable rule.now }
-    requires plan { Planned rule.now plan.now }
-    requires bound { Bounded rule.now bound }
-    requires few { length (R.meaning relation.now).rows ≤ 8 }
-    requires picks { Picks (R.meaning relation.now).rows choices.now (length (R.meaning relation.now).rows) }
-    requires m { m < choices.now.count }
-    requires fitting { Fitting (R.meaning relation.now).rows rule.now }
-    requires fine { Fine (R.meaning relation.now).rows rule.now plan.now seen.old }
-    requires room { seen.old.used + ways choices.now rule.now 1 ≤ 4096 }
-    ensures { MatchOption result (Went (R.meaning relation.now).rows rule.now plan.now seen.old seen.new (ways choices.now rule.now 1) × Tried (R.meaning relation.now).rows rule.now plan.now seen.new 0 (replicate 4 0) (chosen choices.now m)) (PartingAt (R.meaning relation.now).rows rule.now) }
+    requires ready { GroupReady (R.meaning relation.now).rows look.now }
+    requires picks { Picks (R.meaning relation.now).rows choices.now }
+    requires m { m < choice_count choices.now }
+    requires fine { Fine (R.meaning relation.now).rows look.now.rule look.now.plan scratch.old.seen }
+    requires room { scratch.old.seen.used + ways choices.now look.now.rule 1 ≤ 4096 }
+    ensures { MatchOption result (Went (R.meaning relation.now).rows look.now.rule look.now.plan scratch.old.seen scratch.new.seen (ways choices.now look.now.rule 1) × Tried (R.meaning relation.now).rows look.now.rule look.now.plan scratch.new.seen 0 (replicate 4 0) (chosen choices.now m)) (PartingAt (R.meaning relation.now).rows look.now.rule) }
 {
     let mut next = Placing { rows: [0; 4] };
-    next.rows[0] = row_at(choices, m) as u8;
-    *tests = tests.wrapping_add(1);
-    if fits(relation, rule, plan, &next, 0) {
-        return extend(relation, rule, plan, choices, bound, 1, next, seen, tests);
+    next.rows[0] = choices.row(m) as u8;
+    scratch.tests = scratch.tests.wrapping_add(1);
+    let ground = &Ground {
+        relation,
+        rule: &look.rule,
+        plan: &look.plan,
+    };
+    if ground.lands(&next, 0) {
+        return extend(relation, look, choices, 1, next, scratch);
     }
     None
 }

@@ -4,42 +4,31 @@ ghost use Rattle.std.specs.Prelude.{◌≡◌, ℕ, ◌<◌, ◌≤◌, true, le
 ghost use Rattle.search.specs.Placings.{arranged, Groupable, SameRow, Somewhere, Rearranges, PutsBack};
 
 use crate::seen::Placing;
-use rules::loaded::{CodeRow, LoadedRule};
+use rules::loaded::{LoadedRule, TermRow};
+use rules::term::Term;
 
 // Rows, and where each row of the rule stands among them.
 #[derive(Clone, Copy)]
 pub struct Arrangement {
-    pub rows: [CodeRow; 8],
+    pub rows: [TermRow; 8],
     pub places: [usize; 4],
 }
 
-// Whether the code is a left or a right variable.
-fn matters(rule: &LoadedRule, code: u32) -> bool
-    requires { Groupable rule.now }
-{
-    for l in 0..rule.left_count {
-        if 16777216 + rule.left[l] as u32 == code {
-            return true;
-        }
-    }
-    for k in 0..rule.pair_count {
-        if rule.pairs[k].one == code {
-            return true;
-        }
-    }
-    false
+// Whether the term is a left or a right variable.
+fn matters(rule: &LoadedRule, term: Term) -> bool {
+    let is_left = match term {
+        Term::Constant(_) => false,
+        Term::Variable(v) => rule.left().contains(&v),
+    };
+    is_left || rule.pairs().iter().any(|pair| pair.0 == term)
 }
 
-fn is_relevant(rule: &LoadedRule, row: usize) -> bool
-    requires groupable { Groupable rule.now }
-    requires row { row < rule.now.row_count }
+fn is_relevant(rule: &LoadedRule, row: &TermRow) -> bool
+    requires { rule.now.width ≤ 8 }
 {
-    for column in 0..rule.width {
-        if matters(rule, rule.rows[row].codes[column]) {
-            return true;
-        }
-    }
-    false
+    row.terms[..rule.width]
+        .iter()
+        .any(|term| matters(rule, *term))
 }
 
 fn arrangement_of(rule: &LoadedRule) -> Arrangement
@@ -48,23 +37,19 @@ fn arrangement_of(rule: &LoadedRule) -> Arrangement
     let mut rows = rule.rows;
     let mut places: [usize; 4] = [0, 1, 2, 3];
     let mut n: usize = 0;
-    for i in 0..rule.row_count {
-        if is_relevant(rule, i) && n < 4 {
-            rows[n] = rule.rows[i];
-            places[i] = n;
-            n += 1;
-        }
-    }
-    for i in 0..rule.row_count {
-        if !is_relevant(rule, i) && n < 4 {
-            rows[n] = rule.rows[i];
-            places[i] = n;
-            n += 1;
+    for relevant in [true, false] {
+        for (row, place) in rule.rows().iter().zip(&mut places) {
+            if is_relevant(rule, row) == relevant && n < 4 {
+                rows[n] = *row;
+                *place = n;
+                n += 1;
+            }
         }
     }
     Arrangement { rows, places }
 }
 
+// Column by column, since what `==` says of two slices of terms is no fact about each place.
 fn is_same(rule: &LoadedRule, i: usize, other: &LoadedRule, j: usize) -> bool
     requires groupable { Groupable rule.now }
     requires i { i < 4 }
@@ -72,7 +57,7 @@ fn is_same(rule: &LoadedRule, i: usize, other: &LoadedRule, j: usize) -> bool
     ensures { result ≡ true → SameRow rule.now i other.now j }
 {
     for column in 0..rule.width {
-        if other.rows[j].codes[column] != rule.rows[i].codes[column] {
+        if other.rows[j].terms[column] != rule.rows[i].terms[column] {
             return false;
         }
     }
@@ -84,14 +69,10 @@ fn is_somewhere(rule: &LoadedRule, other: &LoadedRule, j: usize) -> bool
     requires j { j < 4 }
     ensures { result ≡ true → Somewhere rule.now other.now j }
 {
-    for i in 0..rule.row_count {
-        if is_same(rule, i, other, j) {
-            return true;
-        }
-    }
-    false
+    (0..rule.row_count).any(|i| is_same(rule, i, other, j))
 }
 
+// Row by row, by the number, by which all three are asked.
 fn is_arranged(rule: &LoadedRule, other: &LoadedRule, places: &[usize; 4]) -> bool
     requires { Groupable rule.now }
     ensures { result ≡ true → Rearranges rule.now other.now places.now }
@@ -110,7 +91,7 @@ fn is_arranged(rule: &LoadedRule, other: &LoadedRule, places: &[usize; 4]) -> bo
     true
 }
 
-// The placing of the rule's own rows.
+// The placing of the rule's own rows: row by row, since each is read at the place that another list gives.
 pub(crate) fn put_back(placing: &Placing, places: &[usize; 4], count: usize) -> Placing
     requires count { count ≤ 4 }
     requires places { (i : ℕ) → i < count → slice_index places.now i < 4 }

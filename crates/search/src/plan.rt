@@ -1,31 +1,46 @@
 // How the search goes about a rule's pattern.
-ghost use Rattle.std.specs.Prelude.{◌≡◌, ℕ, ◌<◌, ◌≤◌, true};
+ghost use Rattle.std.specs.Prelude.{◌≡◌, ℕ, ◌<◌, ◌≤◌, true, length, take};
+ghost use Rattle.rules.specs.Loaded.{Symbolic};
 ghost use Rattle.search.specs.Placings.{Sound, FirstAt, Leaves, Origins, RowsFit, Planned};
 
 use rules::loaded::LoadedRule;
+use rules::term::Term;
 
 // A place in a pattern.
-#[derive(Clone, Copy)]
+#[derive(Clone, Copy, PartialEq, Eq)]
 pub struct Slot {
     pub row: usize,
     pub column: usize,
 }
 
-// The columns of a row of a pattern that have to be held against a row of the relation.
+// The columns of a row of a pattern that have to be held against a row of the relation: so many, in an array, since the
+// search runs with fixed memory and no heap.
 #[derive(Clone, Copy)]
 pub struct Tests {
     pub columns: [usize; 8],
     pub count: usize,
 }
 
-// Where each symbol of a pattern stands first, and what is to be tested of each row.
+impl Tests {
+    pub(crate) fn columns(&self) -> &[usize]
+        requires { self.now.count ≤ 8 }
+        ensures front { result.now ≡ take self.now.count self.now.columns }
+        ensures long { length result.now ≡ self.now.count }
+    {
+        &self.columns[..self.count]
+    }
+}
+
+// Where each symbol of a pattern stands first, and what is to be tested of each row. What is known of a rule and its plan is
+// asked of each function: a fact of a type has to be a proposition, and where a term stands, or which column tests it, is a choice.
 #[derive(Clone, Copy)]
 pub struct Plan {
     pub origin: [Slot; 64],
     pub tests: [Tests; 8],
 }
 
-// Where each symbol of the pattern stands first: from the last row up, so that the first row has the last word.
+// Where each symbol of the pattern stands first: from the last row up, so that the first row has the last word. By row and
+// column, since they are what is noted.
 fn origins_of(rule: &LoadedRule) -> Plan
     requires { Sound rule.now }
     ensures rows { RowsFit rule.now result }
@@ -41,25 +56,23 @@ fn origins_of(rule: &LoadedRule) -> Plan
     for m in 0..rule.row_count {
         let row = rule.row_count - 1 - m;
         for column in 0..rule.width {
-            let code = rule.rows[row].codes[column];
-            if code >= 16777216 {
-                plan.origin[(code - 16777216) as usize] = Slot { row, column };
+            if let Term::Variable(v) = rule.rows[row].terms[column] {
+                plan.origin[v as usize] = Slot { row, column };
             }
         }
     }
     plan
 }
 
-// Whether the code is a symbol that stands first in this row and column.
-fn is_own(plan: &Plan, code: u32, row: usize, column: usize) -> bool
-    requires { code < 16777280 }
-    ensures { result ≡ true → FirstAt plan.now code row column }
+// Whether the term is a symbol that stands first in this row and column.
+fn is_own(plan: &Plan, term: Term, row: usize, column: usize) -> bool
+    requires { Symbolic term }
+    ensures { result ≡ true → FirstAt plan.now term row column }
 {
-    if code < 16777216 {
-        return false;
+    match term {
+        Term::Constant(_) => false,
+        Term::Variable(v) => plan.origin[v as usize] == Slot { row, column },
     }
-    let slot = plan.origin[(code - 16777216) as usize];
-    slot.row == row && slot.column == column
 }
 
 // What is to be tested of a row of the pattern.
@@ -72,8 +85,8 @@ fn tests_of(rule: &LoadedRule, plan: &Plan, row: usize) -> Tests
         columns: [0; 8],
         count: 0,
     };
-    for column in 0..rule.width {
-        if !is_own(plan, rule.rows[row].codes[column], row, column) {
+    for (column, term) in rule.rows[row].terms[..rule.width].iter().enumerate() {
+        if !is_own(plan, *term, row, column) {
             let place = tests.count;
             tests.columns[place] = column;
             tests.count = place + 1;
@@ -82,6 +95,7 @@ fn tests_of(rule: &LoadedRule, plan: &Plan, row: usize) -> Tests
     tests
 }
 
+// Row by row, by the number, which tests_of wants too.
 pub(crate) fn plan_of(rule: &LoadedRule) -> Plan
     requires { Sound rule.now }
     ensures { Planned rule.now result }

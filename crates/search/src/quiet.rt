@@ -1,73 +1,84 @@
 // The quick look: whether no right variable can have two numbers, by a look at its column alone.
 ghost use Rattle.std.specs.Prelude.{◌≡◌, ℕ, ◌<◌, ◌≤◌, true, length};
-ghost use Rattle.rules.specs.Loaded.{code_at};
-ghost use Rattle.search.specs.Placings.{Sound, Planned, OneValue, Unlike, AllAgree};
+ghost use Rattle.rules.specs.Loaded.{loaded_term};
+ghost use Rattle.search.specs.Placings.{Sound, OneValue, Single, Unlike, AllAgree};
 
 use crate::cell::cell;
-use crate::plan::Plan;
+use crate::ground::Ground;
+use crate::plan::Slot;
 use crate::relation::Relation;
-use rules::loaded::LoadedRule;
+use rules::term::Term;
 
-// Whether a constant of row `i` of the pattern is missed by the row.
-fn unlike<R: Relation>(relation: &R, rule: &LoadedRule, i: usize, row: usize) -> bool
-    requires sound { Sound rule.now }
-    requires i { i < rule.now.row_count }
-    ensures { result ≡ true → Unlike (R.meaning relation.now).rows rule.now i row }
-{
-    for column in 0..rule.width {
-        let code = rule.rows[i].codes[column];
-        if code < 16777216 && code != cell(relation, row, column) {
-            return true;
-        }
-    }
-    false
-}
-
-// Whether the column shows one number at most, in the rows that row `i` of the pattern may go to.
-fn one_value<R: Relation>(relation: &R, rule: &LoadedRule, i: usize, j: usize) -> bool
-    requires sound { Sound rule.now }
-    requires i { i < rule.now.row_count }
-    requires j { j < rule.now.width }
-    ensures { result ≡ true → OneValue (R.meaning relation.now).rows rule.now i (code_at rule.now i j) }
-{
-    let mut found: Option<u32> = None;
-    for row in 0..relation.rows() {
-        if !unlike(relation, rule, i, row) {
-            let number = cell(relation, row, j);
-            match found {
-                Some(other) => {
-                    if number != other {
-                        return false;
-                    }
-                }
-                None => {
-                    found = Some(number);
-                }
-            }
-        }
-    }
-    true
-}
-
-pub(crate) fn is_quiet<R: Relation>(relation: &R, rule: &LoadedRule, plan: &Plan) -> bool
-    requires sound { Sound rule.now }
-    requires plan { Planned rule.now plan.now }
-    ensures { result ≡ true → AllAgree (R.meaning relation.now).rows rule.now }
-{
-    for r in 0..rule.pair_count {
-        let code = rule.pairs[r].one;
-        if code >= 16777216 {
-            let slot = plan.origin[(code - 16777216) as usize];
-            if slot.row >= rule.row_count
-                || slot.column >= rule.width
-                || rule.rows[slot.row].codes[slot.column] != code
+impl<R: Relation> Ground<'_, R> {
+    // Whether a constant of row `i` of the pattern is missed by the row.
+    fn unlike(&self, i: usize, row: usize) -> bool
+        requires sound { Sound self.now.rule.now }
+        requires i { i < self.now.rule.now.row_count }
+        ensures { result ≡ true → Unlike (R.meaning self.now.relation.now).rows self.now.rule.now i row }
+    {
+        for (column, term) in self.rule.rows[i].terms[..self.rule.width]
+            .iter()
+            .enumerate()
+        {
+            if let Term::Constant(c) = term
+                && *c != cell(self.relation, row, column)
             {
-                return false;
-            }
-            if !one_value(relation, rule, slot.row, slot.column) {
-                return false;
+                return true;
             }
         }
+        false
     }
-    true
+
+    // Whether the column shows one number at most, in the rows that row `i` of the pattern may go to.
+    fn one_value(&self, i: usize, j: usize) -> bool
+        requires sound { Sound self.now.rule.now }
+        requires i { i < self.now.rule.now.row_count }
+        requires j { j < self.now.rule.now.width }
+        ensures { result ≡ true → OneValue (R.meaning self.now.relation.now).rows self.now.rule.now i (loaded_term self.now.rule.now i j) }
+    {
+        let mut found: Option<u32> = None;
+        for row in 0..self.relation.rows() {
+            if !self.unlike(i, row) {
+                let number = cell(self.relation, row, j);
+                if found.unwrap_or(number) != number {
+                    return false;
+                }
+                found = Some(number);
+            }
+        }
+        true
+    }
+
+    // Whether the term stands at this place, and its column shows one number at most.
+    fn is_single_at(&self, slot: Slot, term: Term) -> bool
+        requires { Sound self.now.rule.now }
+        ensures { result ≡ true → Single (R.meaning self.now.relation.now).rows self.now.rule.now term }
+    {
+        slot.row < self.rule.row_count
+            && slot.column < self.rule.width
+            && self.rule.rows[slot.row].terms[slot.column] == term
+            && self.one_value(slot.row, slot.column)
+    }
+
+    // Whether the term has one number at most.
+    fn is_single(&self, term: Term) -> bool
+        requires { Sound self.now.rule.now }
+        ensures { result ≡ true → Single (R.meaning self.now.relation.now).rows self.now.rule.now term }
+    {
+        match term {
+            Term::Constant(_) => true,
+            // No `is_some_and`: of its closure over the ground the proof here would learn nothing.
+            Term::Variable(v) => match self.plan.origin.get(v as usize) {
+                Some(slot) => self.is_single_at(*slot, term),
+                None => false,
+            },
+        }
+    }
+
+    pub(crate) fn is_quiet(&self) -> bool
+        requires { Sound self.now.rule.now }
+        ensures { result ≡ true → AllAgree (R.meaning self.now.relation.now).rows self.now.rule.now }
+    {
+        self.rule.pairs().iter().all(|pair| self.is_single(pair.0))
+    }
 }

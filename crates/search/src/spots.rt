@@ -1,10 +1,35 @@
 // Spots, by the placings that break a rule there.
-ghost use Rattle.std.specs.Prelude.{◌≡◌, ℕ, ◌+◌, ◌<◌, ◌≤◌, slice_index};
+ghost use Rattle.std.specs.Prelude.{◌≡◌, ℕ, ◌+◌, ◌<◌, ◌≤◌, ◌⊎◌, length, slice_index};
 ghost use Rattle.search.specs.Placings.{place};
 
+use crate::placing::Placement;
 use crate::seen::Parting;
 use crate::spot::Spot;
-use crate::walk::Split;
+use crate::walk::{Difference, Split};
+
+// Writes the rows that a placing goes to, from place `from` on: one by one, as a placing tells them.
+fn put<P: Placement>(places: &mut [usize; 8], from: usize, placing: &P, count: usize)
+    requires room { from + count ≤ 8 }
+    requires rows { count ≤ length (P.places placing.now) }
+    ensures here { (i : ℕ) → i < count → slice_index places.new (from + i) ≡ place (P.places placing.now) i }
+    ensures others { (i : ℕ) → (i < from) ⊎ (from + count ≤ i) → slice_index places.new i ≡ slice_index places.old i }
+{
+    for i in 0..count {
+        places[from + i] = placing.row(i);
+    }
+}
+
+fn spot(number: usize, places: [usize; 8], difference: Difference) -> Spot
+    ensures { result ≡ record { rule = number; pair = difference.pair; places = places; one = difference.one; other = difference.other } }
+{
+    Spot {
+        rule: number,
+        pair: difference.pair,
+        places,
+        one: difference.one,
+        other: difference.other,
+    }
+}
 
 // The spot of a placing: the places of the pattern's rows, then 0.
 pub(crate) fn spot_of(number: usize, split: &Split, count: usize) -> Spot
@@ -17,17 +42,8 @@ pub(crate) fn spot_of(number: usize, split: &Split, count: usize) -> Spot
     ensures rest { (i : ℕ) → count ≤ i → slice_index result.places i ≡ 0 }
 {
     let mut places: [usize; 8] = [0; 8];
-    for i in 0..count {
-        places[i] = split.places.rows[i];
-    }
-    let difference = split.difference;
-    Spot {
-        rule: number,
-        pair: difference.pair,
-        places,
-        one: difference.one,
-        other: difference.other,
-    }
+    put(&mut places, 0, &split.places, count);
+    spot(number, places, split.difference)
 }
 
 // The spot of two placings: the places of the first, those of the second, then 0.
@@ -42,16 +58,7 @@ pub(crate) fn joint_spot(number: usize, parting: &Parting, count: usize) -> Spot
     ensures rest { (i : ℕ) → count + count ≤ i → slice_index result.places i ≡ 0 }
 {
     let mut places: [usize; 8] = [0; 8];
-    for i in 0..count {
-        places[i] = parting.first.rows[i] as usize;
-        places[count + i] = parting.second.rows[i] as usize;
-    }
-    let difference = parting.difference;
-    Spot {
-        rule: number,
-        pair: difference.pair,
-        places,
-        one: difference.one,
-        other: difference.other,
-    }
+    put(&mut places, 0, &parting.first, count);
+    put(&mut places, count, &parting.second, count);
+    spot(number, places, parting.difference)
 }

@@ -18,10 +18,9 @@ impl<'a> Table<'a> {
         ensures rows { result.rows.now ≡ rows.now }
         ensures width { result.width ≡ min width 8 }
     {
-        if width <= 8 {
-            Table { rows, width }
-        } else {
-            Table { rows, width: 8 }
+        Table {
+            rows,
+            width: width.min(8),
         }
     }
 }

@@ -1,11 +1,9 @@
 -- The walk looks at no word past the place of its fault.
-use Rattle.std.proofs.Common.{◌≡◌, ℕ, zero, suc, ◌+◌, ◌-◌, ◌*◌, ◌<◌, ◌≤◌, Bool, true, false, cond, ◌&&◌, ltb, leb, ◌⊎◌, List, [], length, get_or, take, drop, Ok, Err, sym, refl, ap, ◌∙◌, subst, inl, inr, ⊎_elim, arith, length-take}
+use Rattle.std.proofs.Common.{◌≡◌, ℕ, zero, suc, ◌+◌, ◌-◌, ◌*◌, ◌<◌, ◌≤◌, Bool, true, false, cond, ◌&&◌, ltb, leb, ◌⊎◌, List, length, get_or, take, drop, Ok, Err, sym, refl, ap, ◌∙◌, subst, inl, inr, ⊎_elim, arith, length-take}
 use Rattle.std.proofs.lemmas.List.{get_or-take, take-take, drop-take, length-take-le}
 use Rattle.std.proofs.lemmas.Bool.{lt-ltb, le-ltb, ltb-true, cases_Bool, and_parts, and_right}
-use Rattle.sheets.specs.Walk.{Out, then, word_in, passes, each, part, most_left, pair_size, pair_want, lists_end, rule_end, rules_end, sheet_end}
+use Rattle.sheets.specs.Walk.{Out, then, word_in, is_entry, is_listed, each, part, most_left, pair_size, pair_want, lists_end, rule_end, rules_end, sheet_end}
 use Rattle.rules.specs.declared.fault.BookFault.{BookFault}
-use Rattle.sheets.specs.declared.want.Want.{Want}
-use Rattle.sheets.specs.declared.want.Want.TheVariants.{Entry, Listed}
 
 then-cond : (b : Bool) (w : ℕ) (g : BookFault) (f : ℕ → Out ℕ) → then (cond b (Ok w) (Err g)) f ≡ cond b (f w) (Err g)
 then-cond true w g f = refl
@@ -13,7 +11,7 @@ then-cond false w g f = refl
 
 -- the pairs of a rule
 abbrev pairs_end : List ℕ → List ℕ → ℕ → ℕ → Out ℕ
-pairs_end words rows kind at = then (word_in 0 32 words at) (λ pairs. each (pair_want kind) rows words (pairs * pair_size kind) (at + 1))
+pairs_end words rows kind at = then (word_in 0 32 words at) (λ pairs. each (pair_want kind rows) words (pairs * pair_size kind) (at + 1))
 
 -- a walk from a place ends past it, or has its fault there or past it, within the words
 module _ (words : List ℕ) where
@@ -40,27 +38,27 @@ module _ (words : List ℕ) where
       subst (Ends at) (sym (then-cond b w (record { place = at }) f))
       (ends_cond b at (f w) l (λ e. h w (let t = ltb-true _ _ (and_parts (ltb at (length words)) (leb low w && leb w high) e).0 in omega arith)))
 
-  ends_each : (want : Want) (rows : List ℕ) (n at : ℕ) → at ≤ length words → Ends at (each want rows words n at)
-  ends_each want rows zero at l = (omega arith, l)
-  ends_each want rows (suc n) at l =
-      ends_cond (ltb at (length words) && passes want rows (get_or words at 0)) at (each want rows words n (at + 1)) l
-      (λ e. let t = ltb-true _ _ (and_parts (ltb at (length words)) (passes want rows (get_or words at 0)) e).0 in ends_each want rows n (at + 1) (omega arith))
+  ends_each : (test : ℕ → Bool) (n at : ℕ) → at ≤ length words → Ends at (each test words n at)
+  ends_each test zero at l = (omega arith, l)
+  ends_each test (suc n) at l =
+      ends_cond (ltb at (length words) && test (get_or words at 0)) at (each test words n (at + 1)) l
+      (λ e. let t = ltb-true _ _ (and_parts (ltb at (length words)) (test (get_or words at 0)) e).0 in ends_each test n (at + 1) (omega arith))
 
   ends_pairs : (rows : List ℕ) (kind at : ℕ) → at ≤ length words → Ends at (pairs_end words rows kind at)
-  ends_pairs rows kind at l = ends_word 0 32 at _ l (λ pairs c. ends_each (pair_want kind) rows (pairs * pair_size kind) (at + 1) c)
+  ends_pairs rows kind at l = ends_word 0 32 at _ l (λ pairs c. ends_each (pair_want kind rows) (pairs * pair_size kind) (at + 1) c)
 
-  ends_left : (rows : List ℕ) (kind lefts at : ℕ) → at ≤ length words → Ends at (then (each Listed rows words lefts at) (λ next. pairs_end words rows kind next))
-  ends_left rows kind lefts at l = ends_then at (each Listed rows words lefts at) _ (ends_each Listed rows lefts at l) (λ next b. ends_pairs rows kind next b)
+  ends_left : (rows : List ℕ) (kind lefts at : ℕ) → at ≤ length words → Ends at (then (each (is_listed rows) words lefts at) (λ next. pairs_end words rows kind next))
+  ends_left rows kind lefts at l = ends_then at (each (is_listed rows) words lefts at) _ (ends_each (is_listed rows) lefts at l) (λ next b. ends_pairs rows kind next b)
 
   ends_lists : (rows : List ℕ) (kind at : ℕ) → at ≤ length words → Ends at (lists_end words rows kind at)
   ends_lists rows kind at l = ends_word 0 (most_left kind) at _ l (λ lefts a. ends_left rows kind lefts (at + 1) a)
 
-  ends_rows : (width kind rows at : ℕ) → at + 2 ≤ length words → Ends (at + 1 + 1) (then (each Entry [] words (rows * width) (at + 2)) (λ next. lists_end words (part words (at + 2) next) kind next))
+  ends_rows : (width kind rows at : ℕ) → at + 2 ≤ length words → Ends (at + 1 + 1) (then (each is_entry words (rows * width) (at + 2)) (λ next. lists_end words (part words (at + 2) next) kind next))
   ends_rows width kind rows at l =
       ends_weaker (at + 1 + 1) (at + 2) _ (omega arith)
-      (ends_then (at + 2) (each Entry [] words (rows * width) (at + 2)) _ (ends_each Entry [] (rows * width) (at + 2) l) (λ next c. ends_lists (part words (at + 2) next) kind next c))
+      (ends_then (at + 2) (each is_entry words (rows * width) (at + 2)) _ (ends_each is_entry (rows * width) (at + 2) l) (λ next c. ends_lists (part words (at + 2) next) kind next c))
 
-  ends_body : (width kind at : ℕ) → at + 1 ≤ length words → Ends (at + 1) (then (word_in 1 4 words (at + 1)) (λ rows. then (each Entry [] words (rows * width) (at + 2)) (λ next. lists_end words (part words (at + 2) next) kind next)))
+  ends_body : (width kind at : ℕ) → at + 1 ≤ length words → Ends (at + 1) (then (word_in 1 4 words (at + 1)) (λ rows. then (each is_entry words (rows * width) (at + 2)) (λ next. lists_end words (part words (at + 2) next) kind next)))
   ends_body width kind at l = ends_word 1 4 (at + 1) _ l (λ rows b. ends_rows width kind rows at (omega arith))
 
   ends_rule : (width at : ℕ) → at ≤ length words → Ends at (rule_end words width at)
@@ -139,26 +137,26 @@ module _ (words other : List ℕ) (p : ℕ) (same : take p other ≡ take p word
       (subst (λ (y : Out ℕ). Alike (cond (ltb at (length words) && (leb low w && leb w high)) (f w) (Err (record { place = at }))) y) b
       (alike_cond (λ x. leb low x && leb x high) at (f w) (f' v) (λ l. ends w (omega arith)) (λ l. subst (λ (x : ℕ). Alike (f w) (f' x)) (sym (value_same at l)) (h w l))))
 
-  alike_each : (want : Want) (rows : List ℕ) (n at : ℕ) → Alike (each want rows words n at) (each want rows other n at)
-  alike_each want rows zero at = λ q. refl
-  alike_each want rows (suc n) at =
-      alike_cond (passes want rows) at (each want rows words n (at + 1)) (each want rows other n (at + 1)) (λ l. ends_each words want rows n (at + 1) (omega arith)) (λ l. alike_each want rows n (at + 1))
+  alike_each : (test : ℕ → Bool) (n at : ℕ) → Alike (each test words n at) (each test other n at)
+  alike_each test zero at = λ q. refl
+  alike_each test (suc n) at =
+      alike_cond test at (each test words n (at + 1)) (each test other n (at + 1)) (λ l. ends_each words test n (at + 1) (omega arith)) (λ l. alike_each test n (at + 1))
 
   alike_pairs : (rows : List ℕ) (kind at : ℕ) → Alike (pairs_end words rows kind at) (pairs_end other rows kind at)
   alike_pairs rows kind at =
-      alike_word 0 32 at _ _ (λ pairs c. ends_each words (pair_want kind) rows (pairs * pair_size kind) (at + 1) c) (λ pairs c. alike_each (pair_want kind) rows (pairs * pair_size kind) (at + 1))
+      alike_word 0 32 at _ _ (λ pairs c. ends_each words (pair_want kind rows) (pairs * pair_size kind) (at + 1) c) (λ pairs c. alike_each (pair_want kind rows) (pairs * pair_size kind) (at + 1))
 
   alike_lists : (rows : List ℕ) (kind at : ℕ) → Alike (lists_end words rows kind at) (lists_end other rows kind at)
   alike_lists rows kind at =
       alike_word 0 (most_left kind) at _ _ (λ lefts a. ends_left words rows kind lefts (at + 1) a)
-      (λ lefts a. alike_then (at + 1) (each Listed rows words lefts (at + 1)) (each Listed rows other lefts (at + 1)) _ _ (ends_each words Listed rows lefts (at + 1) (omega arith)) (alike_each Listed rows lefts (at + 1)) (λ next b. ends_pairs words rows kind next b)
+      (λ lefts a. alike_then (at + 1) (each (is_listed rows) words lefts (at + 1)) (each (is_listed rows) other lefts (at + 1)) _ _ (ends_each words (is_listed rows) lefts (at + 1) (omega arith)) (alike_each (is_listed rows) lefts (at + 1)) (λ next b. ends_pairs words rows kind next b)
       (λ next b c. alike_pairs rows kind next))
 
   alike_rule : (width at : ℕ) → Alike (rule_end words width at) (rule_end other width at)
   alike_rule width at =
       alike_word 1 2 at _ _ (λ kind a. ends_body words width kind at a) (λ kind a.
       alike_word 1 4 (at + 1) _ _ (λ rows b. ends_rows words width kind rows at (omega arith)) (λ rows b.
-      alike_then (at + 2) (each Entry [] words (rows * width) (at + 2)) (each Entry [] other (rows * width) (at + 2)) _ _ (ends_each words Entry [] (rows * width) (at + 2) (omega arith)) (alike_each Entry [] (rows * width) (at + 2)) (λ next c. ends_lists words (part words (at + 2) next) kind next c)
+      alike_then (at + 2) (each is_entry words (rows * width) (at + 2)) (each is_entry other (rows * width) (at + 2)) _ _ (ends_each words is_entry (rows * width) (at + 2) (omega arith)) (alike_each is_entry (rows * width) (at + 2)) (λ next c. ends_lists words (part words (at + 2) next) kind next c)
       (λ next c d. subst (λ (x : List ℕ). Alike (lists_end words (part words (at + 2) next) kind next) (lists_end other x kind next)) (sym (part_same (at + 2) next c d)) (alike_lists (part words (at + 2) next) kind next))))
 
   alike_rules : (width n at : ℕ) → at ≤ length words → Alike (rules_end words width n at) (rules_end other width n at)

@@ -1,13 +1,13 @@
 -- What an opened sheet knows of its rules.
-use Rattle.std.proofs.Common.{◌≡◌, ℕ, zero, suc, ◌<◌, ◌≤◌, List, length, get_or, Some, None, Ok, Err, sym, refl, ◌∙◌, subst, arith}
+use Rattle.std.proofs.Common.{◌≡◌, ℕ, zero, suc, ◌<◌, ◌≤◌, List, length, get_or, Some, Ok, Err, sym, refl, ◌∙◌, subst, arith}
 use Rattle.std.specs.List.{slice_get}
-use Rattle.std.proofs.lemmas.Option.{slice_get_past}
 use Rattle.sheets.specs.Walk.{Out, rule_end, rules_end, sheet_end}
 use Rattle.sheets.specs.Reads.{end_of, rule_at, rules_at, meaning_by, sheet_meaning}
-use Rattle.sheets.specs.Facts.{start_of, Whole, Wide, Counted, Starts, Found, Tabled, Opened}
+use Rattle.sheets.specs.Facts.{start_of, Whole, Tabled, Opened}
 use Rattle.sheets.specs.Wholes.{then_ok, word_ok, whole_from}
 use Rattle.sheets.specs.Wells.{rules_length}
-use Rattle.rules.specs.declared.fault.BookFault.{BookFault}
+use Rattle.sheets.specs.declared.table.Opening.{Opening}
+use Rattle.std.specs.Result.{result_unwrap_or, MatchResult}
 
 pub rules_nth : (words : List ℕ) (width n at i : ℕ) → i < n → slice_get (rules_at words width n at) i ≡ Some (rule_at words width (start_of words width i at))
 rules_nth words width zero at i h = absurd (omega arith)
@@ -46,31 +46,30 @@ kept_by words (Err f) h width count wide many = record {
   rule_is = λ i l. absurd (omega arith);
 }
 
-module _ (words : List ℕ) (width count : ℕ) (starts : List ℕ) (wide : Wide words width) (counted : Counted words count) (started : Starts words width count starts) where
+module _ (words : List ℕ) (width count : ℕ) (starts : List ℕ) (o : Opened words width count starts) where
   kept : Kept words (sheet_end words) width count
   unfolding sheet_meaning
-  kept = kept_by words (sheet_end words) refl width count wide counted
+  kept = kept_by words (sheet_end words) refl width count o.wide o.counted
 
   pub few : count ≤ 256
   few = kept.few
 
-  pub found : (i : ℕ) → i < count → Found (Some (get_or starts i 0)) words width i
+  pub whole : (i : ℕ) → i < count → Whole words width (get_or starts i 0)
+  whole i l = rw (o.started i l) (kept.whole i l)
+
+  pub found : (i : ℕ) → i < count → slice_get (sheet_meaning words).rules i ≡ Some (rule_at words width (get_or starts i 0))
   unfolding sheet_meaning
-  found i l = rw (started i l) (kept.whole i l, kept.rule_is i l)
+  found i l = rw (o.started i l) (kept.rule_is i l)
 
-  pub none : (i : ℕ) → count ≤ i → Found None words width i
-  unfolding sheet_meaning
-  none i l = slice_get_past (meaning_by words (sheet_end words)).rules i (omega arith)
-
--- what the two ways of opening know
-pub opened_from : (words : List ℕ) (width count : ℕ) (starts : List ℕ) → Tabled words width count starts → Opened words width count starts
+-- what an opening knows, of a sheet that passes or of one that fails
+pub opened_by : (words starts : List ℕ) (r : Out Opening) (t : Opening) → MatchResult r (λ o. Tabled words o.width o.count o.starts) (λ f. sheet_end words ≡ Err f)
+    → t ≡ result_unwrap_or r (record { width = 1; count = 0; starts = starts }) → Opened words t.width t.count t.starts
 unfolding sheet_meaning
-opened_from words width count starts t = record {
-  wide = rw t.passing (sym t.width_is);
-  counted = rw t.passing (rules_length words (get_or words 0 0) (get_or words 1 0) 2 ∙ sym t.count_is);
-  started = t.starts_are;
-}
-
-pub opened_failed : (words : List ℕ) (f : BookFault) (starts : List ℕ) → sheet_end words ≡ Err f → Opened words 1 0 starts
-unfolding sheet_meaning
-opened_failed words f starts e = record { wide = rw e; counted = rw e; started = λ i l. absurd (omega arith) }
+opened_by words starts (Ok o) t h e =
+    subst (λ (o : Opening). Opened words o.width o.count o.starts) (sym e) (record {
+      wide = rw h.passing (sym h.width_is);
+      counted = rw h.passing (rules_length words (get_or words 0 0) (get_or words 1 0) 2 ∙ sym h.count_is);
+      started = h.starts_are;
+    })
+opened_by words starts (Err f) t h e =
+    subst (λ (o : Opening). Opened words o.width o.count o.starts) (sym e) (record { wide = rw h; counted = rw h; started = λ i l. absurd (omega arith) })

@@ -1,5 +1,5 @@
 -- A book that is written down passes, and is read again.
-use Rattle.std.proofs.Common.{◌≡◌, ℕ, zero, suc, ◌+◌, ◌-◌, ◌*◌, ◌<◌, ◌≤◌, true, eqb, ltb, leb, List, [], ◌∷◌, ◌++◌, map, length, get_or, take, drop, Ok, sym, refl, ap, ◌∙◌, subst, ⊎_elim, append_assoc, suc-mul, zero-mul, arith}
+use Rattle.std.proofs.Common.{◌≡◌, ℕ, Bool, zero, suc, ◌+◌, ◌-◌, ◌*◌, ◌<◌, ◌≤◌, true, eqb, ltb, leb, List, [], ◌∷◌, ◌++◌, map, length, get_or, take, drop, Ok, sym, refl, ap, ◌∙◌, subst, ⊎_elim, append_assoc, suc-mul, zero-mul, arith}
 use mathlib.Core.List.Memᴰ
 use mathlib.Core.List.{Memᴰ}
 use Rattle.std.specs.List.{flat_map, AllByRecursion}
@@ -8,17 +8,15 @@ use Rattle.std.proofs.ByRecursion.{All-get_or, All-append}
 use Rattle.std.proofs.lemmas.Bool.{lt-ltb, le-ltb, le-leb, eq-eqb, and_from, or_left, or_right, or_cases, and_parts, leb-true, ltb-true}
 use Rattle.rules.specs.Rules.{Rule, Pattern, ◌∈◌}
 use Rattle.rules.specs.Books.{base, Small, Stands, Known, PairOf, LeftOf, WellFormed}
-use Rattle.sheets.specs.Walk.{limit, Out, then, word_in, has, passes, each, part, most_left, pair_size, pair_want, rule_end}
+use Rattle.sheets.specs.Walk.{limit, Out, then, word_in, has, is_entry, is_listed, is_side, each, part, most_left, pair_size, pair_want, rule_end}
 use Rattle.sheets.specs.Layout.{word_of, kind_word, pair_words, left_words, layout_lists, layout_rule}
 use Rattle.sheets.specs.Reads.{slots, term_of, kind_of, term_in, left_in, pair_in, left_place, pair_place, end_of, rule_at}
 use Rattle.sheets.specs.Facts.{Whole}
-use Rattle.sheets.specs.Wholes.{AllPass, passes_below, part_below}
+use Rattle.sheets.specs.Wholes.{AllPass, listed_below, pair_below, part_below}
 use Rattle.rules.specs.declared.term.Term.{Term}
 use Rattle.rules.specs.declared.term.Term.TheVariants.{Constant, Variable}
 use Rattle.rules.specs.declared.term.Kind.{Kind}
 use Rattle.rules.specs.declared.term.Kind.TheVariants.{Functional, Equality}
-use Rattle.sheets.specs.declared.want.Want.{Want}
-use Rattle.sheets.specs.declared.want.Want.TheVariants.{Entry, Listed, Side}
 
 -- the walk comes to the end of a rule that is whole
 pub then-pass : {X Y : Type 0} (o : Out X) (f : X → Out Y) (x : X) (y : Y) → o ≡ Ok x → f x ≡ Ok y → then o f ≡ Ok y
@@ -27,11 +25,11 @@ then-pass o f x y e h = rw e h
 pub word_pass : (low high : ℕ) (words : List ℕ) (at : ℕ) → at < length words → low ≤ get_or words at 0 → get_or words at 0 ≤ high → word_in low high words at ≡ Ok (get_or words at 0)
 word_pass low high words at l a b = rw (lt-ltb at (length words) l, le-leb low (get_or words at 0) a, le-leb (get_or words at 0) high b)
 
-pub each-pass : (want : Want) (rows words : List ℕ) (n at : ℕ) → at + n ≤ length words → AllPass want rows words at (at + n) → each want rows words n at ≡ Ok (at + n)
-each-pass want rows words zero at l h = ap Ok (omega arith)
-each-pass want rows words (suc n) at l h =
+pub each-pass : (test : ℕ → Bool) (words : List ℕ) (n at : ℕ) → at + n ≤ length words → AllPass test words at (at + n) → each test words n at ≡ Ok (at + n)
+each-pass test words zero at l h = ap Ok (omega arith)
+each-pass test words (suc n) at l h =
     let t : at < length words = omega arith in
-    let r = each-pass want rows words n (at + 1) (omega arith) (λ p a b. h p (omega arith) (omega arith)) in
+    let r = each-pass test words n (at + 1) (omega arith) (λ p a b. h p (omega arith) (omega arith)) in
     let e : at + 1 + n ≡ at + suc n = omega arith in
     rw (lt-ltb at (length words) t, h at (omega arith) (omega arith)) (r ∙ ap Ok e)
 
@@ -44,11 +42,11 @@ rule-pass words width at h =
     let rows = part words (at + 2) left in
     then-pass (word_in 1 2 words at) _ (w at 0) _ (word_pass 1 2 words at (omega arith) h.some_kind h.few_kinds)
     (then-pass (word_in 1 4 words (at + 1)) _ (w (at + 1) 0) _ (word_pass 1 4 words (at + 1) (omega arith) h.some_row h.few_rows)
-    (then-pass (each Entry [] words (w (at + 1) 0 * width) (at + 2)) _ left _ (each-pass Entry [] words (w (at + 1) 0 * width) (at + 2) (omega arith) (λ p a b. lt-ltb (w p 0) limit (h.entries p a b)))
+    (then-pass (each is_entry words (w (at + 1) 0 * width) (at + 2)) _ left _ (each-pass is_entry words (w (at + 1) 0 * width) (at + 2) (omega arith) (λ p a b. lt-ltb (w p 0) limit (h.entries p a b)))
     (then-pass (word_in 0 (most_left (w at 0)) words left) _ (w left 0) _ (word_pass 0 (most_left (w at 0)) words left (omega arith) (omega arith) h.few_left)
-    (then-pass (each Listed rows words (w left 0) (left + 1)) _ next _ (each-pass Listed rows words (w left 0) (left + 1) (omega arith) h.lefts)
+    (then-pass (each (is_listed rows) words (w left 0) (left + 1)) _ next _ (each-pass (is_listed rows) words (w left 0) (left + 1) (omega arith) h.lefts)
     (then-pass (word_in 0 32 words next) _ (w next 0) _ (word_pass 0 32 words next (omega arith) (omega arith) h.few_pairs)
-    (each-pass (pair_want (w at 0)) rows words (w next 0 * pair_size (w at 0)) (next + 1) h.inside h.sides))))))
+    (each-pass (pair_want (w at 0) rows) words (w next 0 * pair_size (w at 0)) (next + 1) h.inside h.sides))))))
 
 -- what stands at a place where a list begins
 pub at_head : (words : List ℕ) (at w : ℕ) (ws : List ℕ) → drop at words ≡ w ∷ ws → (at < length words) × (get_or words at 0 ≡ w) × (drop (at + 1) words ≡ ws)
@@ -101,11 +99,11 @@ term_word (Variable v) h =
 pub term_read : (words : List ℕ) (t : Term) (p : ℕ) (ys : List ℕ) → Small t → drop p words ≡ word_of t ∷ ys → term_in words p ≡ t
 term_read words t p ys h e = ap term_of (at_head words p (word_of t) ys e).1 ∙ term_word t h
 
-entry-passes : (t : Term) → Small t → passes Entry [] (word_of t) ≡ true
+entry-passes : (t : Term) → Small t → is_entry (word_of t) ≡ true
 entry-passes (Constant c) h = lt-ltb c limit (omega arith)
 entry-passes (Variable v) h = lt-ltb (base + v) limit (omega arith)
 
-row_passes : (row : List Term) → ((t : Term) → t ∈ row → Small t) → AllByRecursion (λ w. passes Entry [] w ≡ true) (map word_of row)
+row_passes : (row : List Term) → ((t : Term) → t ∈ row → Small t) → AllByRecursion (λ w. is_entry w ≡ true) (map word_of row)
 row_passes [] h = tt
 row_passes (t ∷ ts) h = (entry-passes t (h t (Memᴰ.head refl)), row_passes ts (λ u m. h u (Memᴰ.tail m)))
 
@@ -143,10 +141,10 @@ has-rows (x ∷ xs) row w m h =
 pub has-stands : (pattern : Pattern) (v : ℕ) → Stands v pattern → has (flat_map (map word_of) pattern) (base + v) ≡ true
 has-stands pattern v s = has-rows pattern s.0 (base + v) s.1 (has_word (Variable v) s.0 s.2)
 
-left_passes : (pattern : Pattern) (v : ℕ) → Stands v pattern → passes Listed (flat_map (map word_of) pattern) (base + v) ≡ true
+left_passes : (pattern : Pattern) (v : ℕ) → Stands v pattern → is_listed (flat_map (map word_of) pattern) (base + v) ≡ true
 left_passes pattern v s = and_from (leb base (base + v)) _ (le-leb base (base + v) (omega arith)) (has-stands pattern v s)
 
-side_passes : (pattern : Pattern) (t : Term) → Known pattern t → passes Side (flat_map (map word_of) pattern) (word_of t) ≡ true
+side_passes : (pattern : Pattern) (t : Term) → Known pattern t → is_side (flat_map (map word_of) pattern) (word_of t) ≡ true
 side_passes pattern (Constant c) k = or_left (ltb c base) _ (lt-ltb c base k)
 side_passes pattern (Variable v) k = or_right (ltb (base + v) base) _ (has-stands pattern v k)
 
@@ -175,11 +173,11 @@ length-pair_words : (k : Kind) (p : Term × Term) → length (pair_words k p) �
 length-pair_words Functional p = refl
 length-pair_words Equality p = refl
 
-pair_passes : (pattern : Pattern) (k : Kind) (p : Term × Term) → PairOf k p → Known pattern p.0 × Known pattern p.1 → AllByRecursion (λ w. passes (pair_want (kind_word k)) (flat_map (map word_of) pattern) w ≡ true) (pair_words k p)
+pair_passes : (pattern : Pattern) (k : Kind) (p : Term × Term) → PairOf k p → Known pattern p.0 × Known pattern p.1 → AllByRecursion (λ w. pair_want (kind_word k) (flat_map (map word_of) pattern) w ≡ true) (pair_words k p)
 pair_passes pattern Functional p (v, e) n =
     let s = subst (λ (q : Term × Term). Known pattern q.0) e n.0 in
     let l : word_of p.0 ≡ base + v = ap (λ q. word_of q.0) e in
-    (subst (λ (w : ℕ). passes Listed (flat_map (map word_of) pattern) w ≡ true) (sym l) (left_passes pattern v s), tt)
+    (subst (λ (w : ℕ). is_listed (flat_map (map word_of) pattern) w ≡ true) (sym l) (left_passes pattern v s), tt)
 pair_passes pattern Equality p f n = (side_passes pattern p.0 n.0, (side_passes pattern p.1 n.1, tt))
 
 pair_read : (words : List ℕ) (k : Kind) (p : Term × Term) → PairOf k p → Small p.0 → Small p.1 → (at : ℕ) (ys : List ℕ) → drop at words ≡ pair_words k p ++ ys → pair_in k words at ≡ p
@@ -216,47 +214,47 @@ pub record Spread (words : List ℕ) (width at : ℕ) (r : Rule) (rest : List �
 pub spread : (words : List ℕ) (width at : ℕ) (r : Rule) (rest : List ℕ) → WellFormed width r → drop at words ≡ layout_rule r ++ rest → Spread words width at r rest
 unfolding left_place pair_place end_of layout_rule layout_lists
 spread words width at r rest well e =
-    let P = flat_map (map word_of) r.pattern in
-    let B = flat_map left_words r.left in
-    let C = flat_map (pair_words r.kind) r.pairs in
-    let tail2 = length r.pairs ∷ (C ++ rest) in
-    let tail1 = length r.left ∷ (B ++ tail2) in
-    let a1 = append_assoc P (length r.left ∷ (B ++ (length r.pairs ∷ C))) rest in
-    let a2 = append_assoc B (length r.pairs ∷ C) rest in
-    let e0 : drop at words ≡ kind_word r.kind ∷ (length r.pattern ∷ (P ++ tail1)) = cc in
-    let h0 = at_head words at (kind_word r.kind) (length r.pattern ∷ (P ++ tail1)) e0 in
-    let h1 = at_head words (at + 1) (length r.pattern) (P ++ tail1) h0.2 in
+    let row_list = flat_map (map word_of) r.pattern in
+    let left_list = flat_map left_words r.left in
+    let pair_list = flat_map (pair_words r.kind) r.pairs in
+    let after_lefts = length r.pairs ∷ (pair_list ++ rest) in
+    let after_rows = length r.left ∷ (left_list ++ after_lefts) in
+    let rows_grouped = append_assoc row_list (length r.left ∷ (left_list ++ (length r.pairs ∷ pair_list))) rest in
+    let lefts_grouped = append_assoc left_list (length r.pairs ∷ pair_list) rest in
+    let laid : drop at words ≡ kind_word r.kind ∷ (length r.pattern ∷ (row_list ++ after_rows)) = cc in
+    let kind_here = at_head words at (kind_word r.kind) (length r.pattern ∷ (row_list ++ after_rows)) laid in
+    let rows_here = at_head words (at + 1) (length r.pattern) (row_list ++ after_rows) kind_here.2 in
     let two : at + 1 + 1 ≡ at + 2 = omega arith in
-    let d1 : drop (at + 2) words ≡ P ++ tail1 = ap (λ p. drop p words) (sym two) ∙ h1.2 in
-    let lenP = joined_length (map word_of) width r.pattern (λ row m. length-map row word_of ∙ well.of_width row m) in
-    let sizeP : length P ≡ get_or words (at + 1) 0 * width = lenP ∙ ap (λ n. n * width) (sym h1.1) in
+    let rows_drop : drop (at + 2) words ≡ row_list ++ after_rows = ap (λ p. drop p words) (sym two) ∙ rows_here.2 in
+    let rows_joined = joined_length (map word_of) width r.pattern (λ row m. length-map row word_of ∙ well.of_width row m) in
+    let rows_long : length row_list ≡ get_or words (at + 1) 0 * width = rows_joined ∙ ap (λ n. n * width) (sym rows_here.1) in
     let left = at + 2 + get_or words (at + 1) 0 * width in
-    let d2 = (at_front words (at + 2) (get_or words (at + 1) 0 * width) P tail1 sizeP d1).0 in
-    let h2 = at_head words left (length r.left) (B ++ tail2) d2 in
-    let lenB = joined_length left_words 1 r.left (λ v m. refl) in
-    let sizeB : length B ≡ get_or words left 0 = omega (arith, lenB, h2.1) in
+    let left_drop = (at_front words (at + 2) (get_or words (at + 1) 0 * width) row_list after_rows rows_long rows_drop).0 in
+    let left_here = at_head words left (length r.left) (left_list ++ after_lefts) left_drop in
+    let left_joined = joined_length left_words 1 r.left (λ v m. refl) in
+    let left_long : length left_list ≡ get_or words left 0 = omega (arith, left_joined, left_here.1) in
     let pair = left + 1 + get_or words left 0 in
-    let d3 = (at_front words (left + 1) (get_or words left 0) B tail2 sizeB h2.2).0 in
-    let h3 = at_head words pair (length r.pairs) (C ++ rest) d3 in
-    let lenC = joined_length (pair_words r.kind) (pair_size (kind_word r.kind)) r.pairs (λ p m. length-pair_words r.kind p) in
-    let sizeC : length C ≡ get_or words pair 0 * pair_size (get_or words at 0) = lenC ∙ (ap (λ n. n * pair_size (kind_word r.kind)) (sym h3.1) ∙ ap (λ k. get_or words pair 0 * pair_size k) (sym h0.1)) in
-    let d4 = (at_front words (pair + 1) (get_or words pair 0 * pair_size (get_or words at 0)) C rest sizeC h3.2).0 in
+    let pair_drop = (at_front words (left + 1) (get_or words left 0) left_list after_lefts left_long left_here.2).0 in
+    let pairs_here = at_head words pair (length r.pairs) (pair_list ++ rest) pair_drop in
+    let pairs_joined = joined_length (pair_words r.kind) (pair_size (kind_word r.kind)) r.pairs (λ p m. length-pair_words r.kind p) in
+    let pairs_long : length pair_list ≡ get_or words pair 0 * pair_size (get_or words at 0) = pairs_joined ∙ (ap (λ n. n * pair_size (kind_word r.kind)) (sym pairs_here.1) ∙ ap (λ k. get_or words pair 0 * pair_size k) (sym kind_here.1)) in
+    let rest_drop = (at_front words (pair + 1) (get_or words pair 0 * pair_size (get_or words at 0)) pair_list rest pairs_long pairs_here.2).0 in
     record {
-      kind_at = h0.1;
-      rows_at = h1.1;
-      rows_size = sizeP;
-      words_after_rows = tail1;
-      rows_lay = d1;
-      left_at = h2.1;
-      left_size = sizeB;
-      after_left = tail2;
-      left_lay = h2.2;
-      pair_count_at = h3.1;
-      pair_size_is = sizeC;
-      pair_lay = h3.2;
-      pair_place_in = h3.0;
-      after = d4;
-      end_at = omega (arith, length-append P (length r.left ∷ (B ++ (length r.pairs ∷ C))), length-append B (length r.pairs ∷ C));
+      kind_at = kind_here.1;
+      rows_at = rows_here.1;
+      rows_size = rows_long;
+      words_after_rows = after_rows;
+      rows_lay = rows_drop;
+      left_at = left_here.1;
+      left_size = left_long;
+      after_left = after_lefts;
+      left_lay = left_here.2;
+      pair_count_at = pairs_here.1;
+      pair_size_is = pairs_long;
+      pair_lay = pairs_here.2;
+      pair_place_in = pairs_here.0;
+      after = rest_drop;
+      end_at = omega (arith, length-append row_list (length r.left ∷ (left_list ++ (length r.pairs ∷ pair_list))), length-append left_list (length r.pairs ∷ pair_list));
     }
 
 module _ (words : List ℕ) (width at : ℕ) (r : Rule) (rest : List ℕ) (narrow : width ≤ 8) (well : WellFormed width r) (s : Spread words width at r rest) where
@@ -269,24 +267,24 @@ module _ (words : List ℕ) (width at : ℕ) (r : Rule) (rest : List ℕ) (narro
   entries_written : (p : ℕ) → at + 2 ≤ p → p < left_place words width at → get_or words p 0 < limit
   unfolding left_place
   entries_written p a b =
-      ltb-true _ _ (all_points (λ w. passes Entry [] w ≡ true) words (at + 2) (get_or words (at + 1) 0 * width) (flat_map (map word_of) r.pattern) s.words_after_rows s.rows_size s.rows_lay
-      (all_joined (λ w. passes Entry [] w ≡ true) (map word_of) r.pattern (λ row m. row_passes row (well.small row m))) p a b)
+      ltb-true _ _ (all_points (λ w. is_entry w ≡ true) words (at + 2) (get_or words (at + 1) 0 * width) (flat_map (map word_of) r.pattern) s.words_after_rows s.rows_size s.rows_lay
+      (all_joined (λ w. is_entry w ≡ true) (map word_of) r.pattern (λ row m. row_passes row (well.small row m))) p a b)
 
-  lefts_written : (p : ℕ) → left_place words width at + 1 ≤ p → p < pair_place words width at → passes Listed (part words (at + 2) (left_place words width at)) (get_or words p 0) ≡ true
+  lefts_written : (p : ℕ) → left_place words width at + 1 ≤ p → p < pair_place words width at → is_listed (part words (at + 2) (left_place words width at)) (get_or words p 0) ≡ true
   unfolding pair_place
   lefts_written p a b =
-      subst (λ (rows : List ℕ). passes Listed rows (get_or words p 0) ≡ true) (sym rows-part)
-      (all_points (λ w. passes Listed (flat_map (map word_of) r.pattern) w ≡ true) words (left_place words width at + 1) (get_or words (left_place words width at) 0) (flat_map left_words r.left) s.after_left s.left_size s.left_lay
-      (all_joined (λ w. passes Listed (flat_map (map word_of) r.pattern) w ≡ true) left_words r.left (λ v m. (left_passes r.pattern v (well.left_stands v m), tt))) p a b)
+      subst (λ (rows : List ℕ). is_listed rows (get_or words p 0) ≡ true) (sym rows-part)
+      (all_points (λ w. is_listed (flat_map (map word_of) r.pattern) w ≡ true) words (left_place words width at + 1) (get_or words (left_place words width at) 0) (flat_map left_words r.left) s.after_left s.left_size s.left_lay
+      (all_joined (λ w. is_listed (flat_map (map word_of) r.pattern) w ≡ true) left_words r.left (λ v m. (left_passes r.pattern v (well.left_stands v m), tt))) p a b)
 
-  sides_written : (p : ℕ) → pair_place words width at + 1 ≤ p → p < end_of words width at → passes (pair_want (get_or words at 0)) (part words (at + 2) (left_place words width at)) (get_or words p 0) ≡ true
+  sides_written : (p : ℕ) → pair_place words width at + 1 ≤ p → p < end_of words width at → pair_want (get_or words at 0) (part words (at + 2) (left_place words width at)) (get_or words p 0) ≡ true
   unfolding end_of
   sides_written p a b =
       let rows = flat_map (map word_of) r.pattern in
-      subst (λ (k : ℕ). passes (pair_want k) (part words (at + 2) (left_place words width at)) (get_or words p 0) ≡ true) (sym s.kind_at)
-      (subst (λ (rows : List ℕ). passes (pair_want (kind_word r.kind)) rows (get_or words p 0) ≡ true) (sym rows-part)
-      (all_points (λ w. passes (pair_want (kind_word r.kind)) rows w ≡ true) words (pair_place words width at + 1) (get_or words (pair_place words width at) 0 * pair_size (get_or words at 0)) (flat_map (pair_words r.kind) r.pairs) rest s.pair_size_is s.pair_lay
-      (all_joined (λ w. passes (pair_want (kind_word r.kind)) rows w ≡ true) (pair_words r.kind) r.pairs (λ x m. pair_passes r.pattern r.kind x (well.pairs_fit x m) (well.pairs_known x m))) p a b))
+      subst (λ (k : ℕ). pair_want k (part words (at + 2) (left_place words width at)) (get_or words p 0) ≡ true) (sym s.kind_at)
+      (subst (λ (rows : List ℕ). pair_want (kind_word r.kind) rows (get_or words p 0) ≡ true) (sym rows-part)
+      (all_points (λ w. pair_want (kind_word r.kind) rows w ≡ true) words (pair_place words width at + 1) (get_or words (pair_place words width at) 0 * pair_size (get_or words at 0)) (flat_map (pair_words r.kind) r.pairs) rest s.pair_size_is s.pair_lay
+      (all_joined (λ w. pair_want (kind_word r.kind) rows w ≡ true) (pair_words r.kind) r.pairs (λ x m. pair_passes r.pattern r.kind x (well.pairs_fit x m) (well.pairs_known x m))) p a b))
 
   inside_written : end_of words width at ≤ length words
   unfolding end_of
@@ -324,10 +322,10 @@ module _ (words : List ℕ) (width at : ℕ) (r : Rule) (rest : List ℕ) (narro
         few_left = rw (s.left_at, s.kind_at) most;
         lefts = lefts_written;
         lefts_from = λ p a b. leb-true _ _ (and_parts (leb base (get_or words p 0)) (has rows (get_or words p 0)) (lefts_written p a b)).0;
-        lefts_below = λ p a b. passes_below Listed rows (get_or words p 0) below (lefts_written p a b);
+        lefts_below = λ p a b. listed_below rows (get_or words p 0) below (lefts_written p a b);
         few_pairs = rw s.pair_count_at well.few_pairs;
         sides = sides_written;
-        sides_below = λ p a b. passes_below (pair_want (get_or words at 0)) rows (get_or words p 0) below (sides_written p a b);
+        sides_below = λ p a b. pair_below (eqb (get_or words at 0) 1) rows (get_or words p 0) below (sides_written p a b);
       }
 
   pub read-written : rule_at words width at ≡ r

@@ -1,11 +1,9 @@
 -- Facts about words that the functions of this crate hand to one another, and that an opened sheet keeps.
 -- No one outside needs them.
-use Rattle.std.specs.Prelude.{◌≡◌, ℕ, zero, suc, ◌+◌, ◌*◌, ◌<◌, ◌≤◌, true, List, length, Some, None, Ok, Option, slice_index, slice_index_or}
-use Rattle.std.specs.List.{slice_get}
+use Rattle.std.specs.Prelude.{◌≡◌, ℕ, zero, suc, ◌+◌, ◌*◌, ◌<◌, ◌≤◌, true, List, length, Ok, slice_index, slice_index_or}
 use Rattle.rules.specs.Books.{base}
-use Rattle.sheets.specs.Walk.{limit, passes, part, most_left, pair_size, pair_want, sheet_end}
-use Rattle.sheets.specs.Reads.{left_place, pair_place, end_of, rule_at, sheet_meaning}
-use Rattle.sheets.specs.declared.want.Want.TheVariants.{Listed}
+use Rattle.sheets.specs.Walk.{limit, is_listed, part, most_left, pair_size, pair_want, sheet_end}
+use Rattle.sheets.specs.Reads.{left_place, pair_place, end_of, sheet_meaning}
 
 -- the rule that begins at a place lies within the words, and each of its words is what is wanted there
 pub record Whole (words : List ℕ) (width at : ℕ) : Type 0 where
@@ -20,11 +18,11 @@ pub record Whole (words : List ℕ) (width at : ℕ) : Type 0 where
   pub few_rows : slice_index_or words (at + 1) 0 ≤ 4
   pub entries : (p : ℕ) → at + 2 ≤ p → p < left_place words width at → slice_index words p < limit
   pub few_left : slice_index_or words (left_place words width at) 0 ≤ most_left (slice_index words at)
-  pub lefts : (p : ℕ) → left_place words width at + 1 ≤ p → p < pair_place words width at → passes Listed (part words (at + 2) (left_place words width at)) (slice_index words p) ≡ true
+  pub lefts : (p : ℕ) → left_place words width at + 1 ≤ p → p < pair_place words width at → is_listed (part words (at + 2) (left_place words width at)) (slice_index words p) ≡ true
   pub lefts_from : (p : ℕ) → left_place words width at + 1 ≤ p → p < pair_place words width at → base ≤ slice_index words p
   pub lefts_below : (p : ℕ) → left_place words width at + 1 ≤ p → p < pair_place words width at → slice_index words p < limit
   pub few_pairs : slice_index_or words (pair_place words width at) 0 ≤ 32
-  pub sides : (p : ℕ) → pair_place words width at + 1 ≤ p → p < end_of words width at → passes (pair_want (slice_index words at)) (part words (at + 2) (left_place words width at)) (slice_index words p) ≡ true
+  pub sides : (p : ℕ) → pair_place words width at + 1 ≤ p → p < end_of words width at → pair_want (slice_index words at) (part words (at + 2) (left_place words width at)) (slice_index words p) ≡ true
   pub sides_below : (p : ℕ) → pair_place words width at + 1 ≤ p → p < end_of words width at → slice_index words p < limit
 
 -- where the rule with a number begins, if the first begins at a place; and that so each of so many does
@@ -56,8 +54,3 @@ pub record Opened (words : List ℕ) (width count : ℕ) (starts : List ℕ) : T
   pub wide : Wide words width
   pub counted : Counted words count
   pub started : Starts words width count starts
-
--- where a rule begins, or that there is none with that number
-abbrev pub Found : Option ℕ → List ℕ → ℕ → ℕ → Type 0
-Found None words width i = slice_get (sheet_meaning words).rules i ≡ None
-Found (Some at) words width i = Whole words width at × (slice_get (sheet_meaning words).rules i ≡ Some (rule_at words width at))

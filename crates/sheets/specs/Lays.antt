@@ -75,18 +75,18 @@ module _ (words : List ℕ) (width at : ℕ) (h : Whole words width at) where
       let pair = pair_place words width at in
       let size = pair_size (slice_index words at) in
       let vs = slots_lay left_words (left_in words) 1 words (slice_index words left) (left + 1) (λ p a b. left_lay words p (omega arith) (h.lefts_from p a (omega arith))) in
-      let vs-end : left + 1 + slice_index words left * 1 ≡ pair = omega arith in
+      let vs_end : left + 1 + slice_index words left * 1 ≡ pair = omega arith in
       let ps = slots_lay (pair_words (kind_of (slice_index words at))) (pair_in (kind_of (slice_index words at)) words) size words (slice_index words pair) (pair + 1) (λ p a b. pair_lay words (slice_index words at == 1) p (omega arith)) in
-      let pattern-many = slots_length (slots (term_in words) 1 width) width (slice_index words (at + 1)) (at + 2) in
-      let left-many = slots_length (left_in words) 1 (slice_index words left) (left + 1) in
-      let pairs-many = slots_length (pair_in (kind_of (slice_index words at)) words) size (slice_index words pair) (pair + 1) in
-      rw (pattern-many, left-many, pairs-many, word_kind (slice_index words at) h.some_kind h.few_kinds)
+      let pattern_many = slots_length (slots (term_in words) 1 width) width (slice_index words (at + 1)) (at + 2) in
+      let left_many = slots_length (left_in words) 1 (slice_index words left) (left + 1) in
+      let pairs_many = slots_length (pair_in (kind_of (slice_index words at)) words) size (slice_index words pair) (pair + 1) in
+      rw (pattern_many, left_many, pairs_many, word_kind (slice_index words at) h.some_kind h.few_kinds)
       (chain (drop at words) (drop (at + 1) words) (drop (at + 2) words) (drop left words) (drop (left + 1) words) (drop pair words) (drop (pair + 1) words) (drop (end_of words width at) words)
       _ _ _ _ _ _ _
       (head_at words at (at + 1) (omega arith) refl)
       (head_at words (at + 1) (at + 2) (omega arith) (omega arith))
       pattern_lay
       (head_at words left (left + 1) (omega arith) refl)
-      (vs ∙ ap (λ p. flat_map left_words (rule_at words width at).left ++ drop p words) vs-end)
+      (vs ∙ ap (λ p. flat_map left_words (rule_at words width at).left ++ drop p words) vs_end)
       (head_at words pair (pair + 1) (omega arith) refl)
       (ps ∙ ap (λ p. flat_map (pair_words (kind_of (slice_index words at))) (rule_at words width at).pairs ++ drop p words) (sym h.end_is)))

@@ -9,7 +9,7 @@ use Rattle.std.proofs.lemmas.List.{take_at, length-append, length-drop}
 use Rattle.std.proofs.lemmas.Bool.{cases_Bool, eqb-true, ltb-true, ltb-false, leb-true, and_parts, or_cases, or_right, le-ltb}
 use Rattle.rules.specs.Rules.{Rule, Pattern, ◌∈◌}
 use Rattle.rules.specs.Books.{base, Small, Stands, Known, PairOf, LeftOf, WellFormed, WellFormedBook}
-use Rattle.sheets.specs.Walk.{limit, Out, has, passes, part, pair_size, pair_want, rule_end, rules_end, sheet_end}
+use Rattle.sheets.specs.Walk.{limit, Out, has, is_listed, is_side, part, pair_size, pair_want, rule_end, rules_end, sheet_end}
 use Rattle.sheets.specs.Layout.{word_of}
 use Rattle.sheets.specs.Reads.{slots, term_of, kind_of, term_in, left_in, pair_in, left_place, pair_place, end_of, rule_at, rules_at, meaning_by, sheet_meaning}
 use Rattle.sheets.specs.Facts.{Whole}
@@ -19,7 +19,6 @@ use Rattle.sheets.specs.Lays.{pattern_lay}
 use Rattle.rules.specs.declared.term.Term.{Term}
 use Rattle.rules.specs.declared.term.Term.TheVariants.{Constant, Variable}
 use Rattle.rules.specs.declared.term.Kind.TheVariants.{Functional, Equality}
-use Rattle.sheets.specs.declared.want.Want.TheVariants.{Listed, Side}
 
 -- an element of what stands in slots stands in one of them
 pub mem_slots : {X : Type 0} (f : ℕ → X) (size n at : ℕ) (x : X) → x ∈ slots f size n at → (p : ℕ) × (at ≤ p) × (p + size ≤ at + n * size) × (x ≡ f p)
@@ -64,7 +63,7 @@ pub small_term : (w : ℕ) → w < limit → Small (term_of w)
 small_term w h =
     ⊎_elim (λ e. rw e (ltb-true w base e)) (λ e. rw e (let g = ltb-false w base e in omega arith)) (cases_Bool (nat_lt w base))
 
-pub known_from : (pattern : Pattern) (w : ℕ) → AllSmall pattern → passes Side (flat_map (map word_of) pattern) w ≡ true → Known pattern (term_of w)
+pub known_from : (pattern : Pattern) (w : ℕ) → AllSmall pattern → is_side (flat_map (map word_of) pattern) w ≡ true → Known pattern (term_of w)
 known_from pattern w small h =
     ⊎_elim (λ e. rw e (ltb-true w base e))
     (λ e. rw e (stands_from pattern w small (ltb-false w base e) (rw e at h)))
@@ -72,7 +71,7 @@ known_from pattern w small h =
 
 -- what each way of reading pairs gives, by the kind's test
 pairs_known_by : (pattern : Pattern) (words : List ℕ) (b : Bool) (p : ℕ) → AllSmall pattern
-    → ((q : ℕ) → p ≤ q → q < p + cond b 1 2 → passes (cond b Listed Side) (flat_map (map word_of) pattern) (slice_index words q) ≡ true)
+    → ((q : ℕ) → p ≤ q → q < p + cond b 1 2 → cond b (is_listed (flat_map (map word_of) pattern)) (is_side (flat_map (map word_of) pattern)) (slice_index words q) ≡ true)
     → Known pattern (pair_in (cond b Functional Equality) words p).0 × Known pattern (pair_in (cond b Functional Equality) words p).1
 pairs_known_by pattern words true p small h =
     let a = (and_parts (nat_le base (slice_index words p)) (has (flat_map (map word_of) pattern) (slice_index words p)) (h p (omega arith) (omega arith))).1 in
@@ -82,7 +81,7 @@ pairs_known_by pattern words false p small h =
     (known_from pattern (slice_index words p) small (h p (omega arith) (omega arith)), known_from pattern (slice_index words (p + 1)) small (h (p + 1) (omega arith) (omega arith)))
 
 pairs_fit_by : (rows words : List ℕ) (b : Bool) (p : ℕ)
-    → ((q : ℕ) → p ≤ q → q < p + cond b 1 2 → passes (cond b Listed Side) rows (slice_index words q) ≡ true)
+    → ((q : ℕ) → p ≤ q → q < p + cond b 1 2 → cond b (is_listed rows) (is_side rows) (slice_index words q) ≡ true)
     → PairOf (cond b Functional Equality) (pair_in (cond b Functional Equality) words p)
 pairs_fit_by rows words true p h =
     let a = leb-true _ _ (and_parts (nat_le base (slice_index words p)) (has rows (slice_index words p)) (h p (omega arith) (omega arith))).0 in
@@ -121,19 +120,19 @@ module _ (words : List ℕ) (width at : ℕ) (h : Whole words width at) where
       let left = left_place words width at in
       let pair = pair_place words width at in
       let kind = slice_index_or words at 0 in
-      let pattern-many = slots_length (slots (term_in words) 1 width) width (slice_index words (at + 1)) (at + 2) in
-      let left-many = slots_length (left_in words) 1 (slice_index words left) (left + 1) in
-      let pairs-many = slots_length (pair_in (kind_of kind) words) (pair_size kind) (slice_index words pair) (pair + 1) in
-      let side : (p : ℕ) → pair + 1 ≤ p → p < end_of words width at → passes (pair_want kind) (flat_map (map word_of) (rule_at words width at).pattern) (slice_index words p) ≡ true
-      = λ p a b. subst (λ (rows : List ℕ). passes (pair_want kind) rows (slice_index words p) ≡ true) rows_are (h.sides p a b) in
+      let pattern_many = slots_length (slots (term_in words) 1 width) width (slice_index words (at + 1)) (at + 2) in
+      let left_many = slots_length (left_in words) 1 (slice_index words left) (left + 1) in
+      let pairs_many = slots_length (pair_in (kind_of kind) words) (pair_size kind) (slice_index words pair) (pair + 1) in
+      let side : (p : ℕ) → pair + 1 ≤ p → p < end_of words width at → pair_want kind (flat_map (map word_of) (rule_at words width at).pattern) (slice_index words p) ≡ true
+      = λ p a b. subst (λ (rows : List ℕ). pair_want kind rows (slice_index words p) ≡ true) rows_are (h.sides p a b) in
       record {
-        some_row = rw pattern-many h.some_row;
-        few_rows = rw pattern-many h.few_rows;
+        some_row = rw pattern_many h.some_row;
+        few_rows = rw pattern_many h.few_rows;
         of_width = λ row m.
             (let r = mem_slots (slots (term_in words) 1 width) width (slice_index words (at + 1)) (at + 2) row m in
             ap length r.3 ∙ slots_length (term_in words) 1 width r.0);
         small = all_small;
-        few_left = rw left-many (few_by (kind == 1) (slice_index words left) h.few_left);
+        few_left = rw left_many (few_by (kind == 1) (slice_index words left) h.few_left);
         left_fits = left_fits_by (kind == 1) (left_in words) (slice_index words left) (left + 1) h.few_left;
         left_stands = λ v m.
             (let r = mem_slots (left_in words) 1 (slice_index words left) (left + 1) v m in
@@ -141,7 +140,7 @@ module _ (words : List ℕ) (width at : ℕ) (h : Whole words width at) where
             let a = and_parts (nat_le base (slice_index words p)) (has (part words (at + 2) left) (slice_index words p)) (h.lefts p (omega arith) (omega arith)) in
             let b = subst (λ (rows : List ℕ). has rows (slice_index words p) ≡ true) rows_are a.1 in
             subst (λ (u : ℕ). Stands u (rule_at words width at).pattern) (sym r.3) (stands_from (rule_at words width at).pattern (slice_index words p) all_small (leb-true _ _ a.0) b));
-        few_pairs = rw pairs-many h.few_pairs;
+        few_pairs = rw pairs_many h.few_pairs;
         pairs_known = λ x m.
             (let r = mem_slots (pair_in (kind_of kind) words) (pair_size kind) (slice_index words pair) (pair + 1) x m in
             let p = r.0 in

@@ -5,11 +5,9 @@ use Rattle.std.proofs.Common.{sym, ap, ◌∙◌, ⊎_elim, arith, length-take}
 use Rattle.std.proofs.lemmas.List.{get_or-take, get_or-drop}
 use Rattle.std.proofs.lemmas.Bool.{ltb-true, leb-true, eqb-true, and_parts, or_cases, cases_order}
 use Rattle.rules.specs.Books.{base}
-use Rattle.sheets.specs.Walk.{limit, Out, then, word_in, has, passes, each, part, most_left, pair_size, pair_want, rule_end}
+use Rattle.sheets.specs.Walk.{limit, Out, then, word_in, has, is_entry, is_listed, is_side, each, part, most_left, pair_size, pair_want, rule_end}
 use Rattle.sheets.specs.Reads.{left_place, pair_place, end_of}
 use Rattle.sheets.specs.Facts.{Whole}
-use Rattle.sheets.specs.declared.want.Want.{Want}
-use Rattle.sheets.specs.declared.want.Want.TheVariants.{Entry, Listed, Side}
 use Rattle.rules.specs.declared.fault.BookFault.{BookFault}
 
 pub clash : {X : Type 0} (f : BookFault) (x : X) → ◌≡◌ {A = Out X} (Err f) (Ok x) → ⊥
@@ -32,22 +30,22 @@ word_ok low high words at f y e =
     let same : slice_index_or words at 0 ≡ t.0 = cc in
     (ltb-true _ _ a.0, leb-true _ _ b.0, leb-true _ _ b.1, ap f same ∙ t.2)
 
-module _ (want : Want) (rows words : List ℕ) where
+module _ (test : ℕ → Bool) (words : List ℕ) where
   abbrev pub AllPass : ℕ → ℕ → Type 0
-  AllPass from to = (p : ℕ) → from ≤ p → p < to → passes want rows (slice_index words p) ≡ true
+  AllPass from to = (p : ℕ) → from ≤ p → p < to → test (slice_index words p) ≡ true
 
-  pub each_is : (n at e : ℕ) → each want rows words n at ≡ Ok e → at ≤ length words → (e ≡ at + n) × (at + n ≤ length words) × AllPass at (at + n)
+  pub each_is : (n at e : ℕ) → each test words n at ≡ Ok e → at ≤ length words → (e ≡ at + n) × (at + n ≤ length words) × AllPass at (at + n)
   each_is zero at e h le = let s : at ≡ e = cc in (omega arith, omega arith, λ p a b. absurd (omega arith))
   each_is (suc n) at e h le =
-      let t = cond_ok (nat_lt at (length words) && passes want rows (slice_index words at)) (each want rows words n (at + 1)) (record { place = at }) e h in
-      let a = and_parts (nat_lt at (length words)) (passes want rows (slice_index words at)) t.0 in
+      let t = cond_ok (nat_lt at (length words) && test (slice_index words at)) (each test words n (at + 1)) (record { place = at }) e h in
+      let a = and_parts (nat_lt at (length words)) (test (slice_index words at)) t.0 in
       let l : at < length words = ltb-true _ _ a.0 in
       let r = each_is n (at + 1) e t.1 (omega arith) in
       (omega arith, omega arith, λ p from to. ⊎_elim (λ q. let s : p ≡ at = q in rw s a.1) (λ q. ⊎_elim (λ lt. absurd (omega arith)) (λ lt. r.2 p (omega arith) (omega arith)) q) (cases_order p at))
 
-  pub each_ok : {Y : Type 0} (n at : ℕ) (f : ℕ → Out Y) (y : Y) → then (each want rows words n at) f ≡ Ok y → at ≤ length words → (at + n ≤ length words) × AllPass at (at + n) × (f (at + n) ≡ Ok y)
+  pub each_ok : {Y : Type 0} (n at : ℕ) (f : ℕ → Out Y) (y : Y) → then (each test words n at) f ≡ Ok y → at ≤ length words → (at + n ≤ length words) × AllPass at (at + n) × (f (at + n) ≡ Ok y)
   each_ok n at f y e le =
-      let t = then_ok (each want rows words n at) f y e in
+      let t = then_ok (each test words n at) f y e in
       let r = each_is n at t.0 t.1 le in
       (r.1, r.2, ap f (sym r.0) ∙ t.2)
 
@@ -62,10 +60,12 @@ part_below words from to b h k l =
     let n : k < to - from = omega (arith, length-take (to - from) (drop from words)) in
     rw (get_or-take (to - from) (drop from words) k 0 n, get_or-drop from words k 0) (h (from + k) (omega arith) (omega arith))
 
-pub passes_below : (want : Want) (rows : List ℕ) (w : ℕ) → ((k : ℕ) → k < length rows → slice_index rows k < limit) → passes want rows w ≡ true → w < limit
-passes_below Entry rows w h e = ltb-true w limit e
-passes_below Listed rows w h e = has_below rows limit w h (and_parts (nat_le base w) (has rows w) e).1
-passes_below Side rows w h e = ⊎_elim (λ q. omega (arith, ltb-true w base q)) (has_below rows limit w h) (or_cases (nat_lt w base) (has rows w) e)
+pub listed_below : (rows : List ℕ) (w : ℕ) → ((k : ℕ) → k < length rows → slice_index rows k < limit) → is_listed rows w ≡ true → w < limit
+listed_below rows w h e = has_below rows limit w h (and_parts (nat_le base w) (has rows w) e).1
+
+pub pair_below : (b : Bool) (rows : List ℕ) (w : ℕ) → ((k : ℕ) → k < length rows → slice_index rows k < limit) → cond b (is_listed rows) (is_side rows) w ≡ true → w < limit
+pair_below true rows w h e = listed_below rows w h e
+pair_below false rows w h e = ⊎_elim (λ q. omega (arith, ltb-true w base q)) (has_below rows limit w h) (or_cases (nat_lt w base) (has rows w) e)
 
 pub whole_from : (words : List ℕ) (width at e : ℕ) → width ≤ 8 → rule_end words width at ≡ Ok e → (e ≡ end_of words width at) × Whole words width at
 unfolding left_place pair_place end_of
@@ -75,12 +75,12 @@ whole_from words width at e narrow h =
     let n = word_ok 1 4 words (at + 1) _ e k.3 in
     let left = at + 2 + w (at + 1) 0 * width in
     let rows = part words (at + 2) left in
-    let t = each_ok Entry [] words (w (at + 1) 0 * width) (at + 2) _ e n.3 (omega arith) in
+    let t = each_ok is_entry words (w (at + 1) 0 * width) (at + 2) _ e n.3 (omega arith) in
     let l = word_ok 0 (most_left (w at 0)) words left _ e t.2 in
-    let v = each_ok Listed rows words (w left 0) (left + 1) _ e l.3 (omega arith) in
+    let v = each_ok (is_listed rows) words (w left 0) (left + 1) _ e l.3 (omega arith) in
     let next = left + 1 + w left 0 in
     let c = word_ok 0 32 words next _ e v.2 in
-    let s = each_is (pair_want (w at 0)) rows words (w next 0 * pair_size (w at 0)) (next + 1) e c.3 (omega arith) in
+    let s = each_is (pair_want (w at 0) rows) words (w next 0 * pair_size (w at 0)) (next + 1) e c.3 (omega arith) in
     let below = part_below words (at + 2) left limit (λ p a b. ltb-true _ _ (t.1 p a b)) in (
       s.0,
       record {
@@ -97,9 +97,9 @@ whole_from words width at e narrow h =
         few_left = l.2;
         lefts = v.1;
         lefts_from = λ p a b. leb-true _ _ (and_parts (nat_le base (w p 0)) (has rows (w p 0)) (v.1 p a b)).0;
-        lefts_below = λ p a b. passes_below Listed rows (w p 0) below (v.1 p a b);
+        lefts_below = λ p a b. listed_below rows (w p 0) below (v.1 p a b);
         few_pairs = c.2;
         sides = s.2;
-        sides_below = λ p a b. passes_below (pair_want (w at 0)) rows (w p 0) below (s.2 p a b);
+        sides_below = λ p a b. pair_below ((w at 0) == 1) rows (w p 0) below (s.2 p a b);
       },
     )

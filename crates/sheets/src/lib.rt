@@ -6,4 +6,3 @@ mod reads;
 pub mod sheet;
 mod table;
 mod walk;
-mod want;

@@ -1,4 +1,4 @@
-// What stands in the rule that begins at a place of a sheet's words.
+// What stands in a rule of a sheet's words.
 ghost use Rattle.std.specs.Prelude.{◌≡◌, ◌+◌, ◌<◌, length, slice_index};
 ghost use Rattle.std.specs.List.{slice_get};
 ghost use Rattle.rules.specs.Books.{within};
@@ -7,87 +7,28 @@ ghost use Rattle.sheets.specs.Reads.{term_of, kind_of, pair_in, left_place, pair
 ghost use Rattle.sheets.specs.Facts.{Whole};
 ghost use Rattle.rules.specs.declared.term.Kind.TheVariants.{Equality};
 
-use crate::want::BASE;
-use rules::term::{Kind, Term};
+use rules::term::{BASE, Kind, Term};
 
-fn term_of(w: u32) -> Term
+// Functions and no `From`: these types are those of `rules`, which knows nothing of words, so the trait cannot be given
+// to them here, and a word wrapped in a struct for it would be no plainer.
+pub(crate) fn term_of(w: u32) -> Term
     requires { w < limit }
     ensures { result ≡ term_of w }
 {
     if w < BASE {
-        return Term::Constant(w);
+        Term::Constant(w)
+    } else {
+        Term::Variable((w - BASE) as u8)
     }
-    Term::Variable((w - BASE) as u8)
 }
 
-fn kind_of(w: u32) -> Kind
+pub(crate) fn kind_of(w: u32) -> Kind
     ensures { result ≡ kind_of w }
 {
-    if w == 1 {
-        return Kind::Functional;
+    match w {
+        1 => Kind::Functional,
+        _ => Kind::Equality,
     }
-    Kind::Equality
-}
-
-// Where the left count of a rule stands.
-fn left_place(words: &[u32], width: usize, at: usize) -> usize
-    requires { Whole words.now width at }
-    ensures { result ≡ left_place words.now width at }
-{
-    at + 2 + words[at + 1] as usize * width
-}
-
-// Where the pair count of a rule stands.
-fn pair_place(words: &[u32], width: usize, at: usize) -> usize
-    requires { Whole words.now width at }
-    ensures { result ≡ pair_place words.now width at }
-{
-    let place = left_place(words, width, at);
-    place + 1 + words[place] as usize
-}
-
-pub(crate) fn kind_in(words: &[u32], width: usize, at: usize) -> Kind
-    requires { Whole words.now width at }
-    ensures { result ≡ (rule_at words.now width at).kind }
-{
-    kind_of(words[at])
-}
-
-pub(crate) fn rows_in(words: &[u32], width: usize, at: usize) -> usize
-    requires { Whole words.now width at }
-    ensures { result ≡ length (rule_at words.now width at).pattern }
-{
-    words[at + 1] as usize
-}
-
-pub(crate) fn term_in(
-    words: &[u32],
-    width: usize,
-    at: usize,
-    row: usize,
-    column: usize,
-) -> Option<Term>
-    requires { Whole words.now width at }
-    ensures { result ≡ within (slice_get (rule_at words.now width at).pattern row) (λ t. slice_get t column) }
-{
-    if row >= words[at + 1] as usize {
-        return None;
-    }
-    if column >= width {
-        return None;
-    }
-    Some(term_of(words[at + 2 + row * width + column]))
-}
-
-pub(crate) fn left_in(words: &[u32], width: usize, at: usize, k: usize) -> Option<u8>
-    requires { Whole words.now width at }
-    ensures { result ≡ slice_get (rule_at words.now width at).left k }
-{
-    let place = left_place(words, width, at);
-    if k >= words[place] as usize {
-        return None;
-    }
-    Some((words[place + 1 + k] - BASE) as u8)
 }
 
 // The two terms of an equality pair.
@@ -98,17 +39,76 @@ fn two_terms(words: &[u32], at: usize) -> (Term, Term)
     (term_of(words[at]), term_of(words[at + 1]))
 }
 
-pub(crate) fn pair_in(words: &[u32], width: usize, at: usize, k: usize) -> Option<(Term, Term)>
-    requires { Whole words.now width at }
-    ensures { result ≡ slice_get (rule_at words.now width at).pairs k }
-{
-    let place = pair_place(words, width, at);
-    if k >= words[place] as usize {
-        return None;
+// A rule that stands whole in a sheet's words, and the place where it begins.
+#[derive(Clone, Copy)]
+pub(crate) struct RuleWords<'a> {
+    pub words: &'a [u32],
+    pub width: usize,
+    pub at: usize,
+    ghost whole: { Whole words.now width at },
+}
+
+impl<'a> RuleWords<'a> {
+    // Where the left count stands.
+    fn left_place(&self) -> usize
+        ensures { result ≡ left_place self.now.words.now self.now.width self.now.at }
+    {
+        self.at + 2 + self.words[self.at + 1] as usize * self.width
     }
-    if words[at] == 1 {
-        let side = term_of(words[place + 1 + k]);
-        return Some((side, side));
+
+    // Where the pair count stands.
+    fn pair_place(&self) -> usize
+        ensures { result ≡ pair_place self.now.words.now self.now.width self.now.at }
+    {
+        let place = self.left_place();
+        place + 1 + self.words[place] as usize
     }
-    Some(two_terms(words, place + 1 + k * 2))
+
+    pub fn kind(&self) -> Kind
+        ensures { result ≡ (rule_at self.now.words.now self.now.width self.now.at).kind }
+    {
+        kind_of(self.words[self.at])
+    }
+
+    pub fn rows(&self) -> usize
+        ensures value { result ≡ length (rule_at self.now.words.now self.now.width self.now.at).pattern }
+        ensures told { result ≡ slice_index self.now.words.now (self.now.at + 1) }
+    {
+        self.words[self.at + 1] as usize
+    }
+
+    pub fn term(&self, row: usize, column: usize) -> Option<Term>
+        ensures { result ≡ within (slice_get (rule_at self.now.words.now self.now.width self.now.at).pattern row) (λ t. slice_get t column) }
+    {
+        if row >= self.rows() || column >= self.width {
+            return None;
+        }
+        Some(term_of(self.words[self.at + 2 + row * self.width + column]))
+    }
+
+    pub fn left(&self, k: usize) -> Option<u8>
+        ensures { result ≡ slice_get (rule_at self.now.words.now self.now.width self.now.at).left k }
+    {
+        let place = self.left_place();
+        if k >= self.words[place] as usize {
+            return None;
+        }
+        Some((self.words[place + 1 + k] - BASE) as u8)
+    }
+
+    pub fn pair(&self, k: usize) -> Option<(Term, Term)>
+        ensures { result ≡ slice_get (rule_at self.now.words.now self.now.width self.now.at).pairs k }
+    {
+        let place = self.pair_place();
+        if k >= self.words[place] as usize {
+            return None;
+        }
+        match self.kind() {
+            Kind::Functional => {
+                let side = term_of(self.words[place + 1 + k]);
+                Some((side, side))
+            }
+            Kind::Equality => Some(two_terms(self.words, place + 1 + k * 2)),
+        }
+    }
 }

@@ -1,11 +1,12 @@
-ghost use Rattle.std.specs.Prelude.{◌≡◌, MatchResult};
-ghost use Rattle.sheets.specs.Reads.{sheet_meaning};
-ghost use Rattle.sheets.specs.Facts.{Wide, Counted, Starts, Found};
+ghost use Rattle.std.specs.Prelude.{◌≡◌, MatchResult, MatchOption, Some, None};
+ghost use Rattle.std.specs.List.{slice_get};
+ghost use Rattle.sheets.specs.Reads.{rule_at, sheet_meaning};
+ghost use Rattle.sheets.specs.Facts.{Opened};
 ghost use Rattle.sheets.specs.Laws.{Passing, Failing, ReadBack, Opens};
 ghost use Rattle.sheets.specs.Wells.{sheet_well};
 
-use crate::reads::{kind_in, left_in, pair_in, rows_in, term_in};
-use crate::table::{opened, table};
+use crate::reads::RuleWords;
+use crate::table::{Opening, table};
 use rules::book::Book;
 use rules::fault::BookFault;
 use rules::term::{Kind, Term};
@@ -24,12 +25,8 @@ pub fn check(words: &[u32]) -> Result<(), BookFault>
 #[derive(Clone, Copy)]
 pub struct Sheet<'a> {
     words: &'a [u32],
-    width: usize,
-    count: usize,
-    starts: [usize; 256],
-    ghost wide: { Wide words.now width },
-    ghost counted: { Counted words.now count },
-    ghost started: { Starts words.now width count starts },
+    opening: Opening,
+    ghost opened: { Opened words.now opening.width opening.count opening.starts },
 }
 
 impl<'a> Sheet<'a> {
@@ -38,24 +35,22 @@ impl<'a> Sheet<'a> {
         ensures same { result.words.now ≡ words.now }
         ensures opens { Opens words.now (sheet_meaning result.words.now) }
     {
-        let t = opened(words);
-        let starts = t.starts;
-        Sheet {
-            words,
-            width: t.width,
-            count: t.count,
-            starts,
-        }
+        let opening = table(words).unwrap_or(Opening::EMPTY);
+        Sheet { words, opening }
     }
 
-    // Where a rule begins.
-    fn start(&self, rule: usize) -> Option<usize>
-        ensures { Found result self.now.words.now self.now.width rule }
+    // A rule, in the words where it stands.
+    fn rule(&self, rule: usize) -> Option<RuleWords<'a>>
+        ensures { MatchOption result (slice_get (sheet_meaning self.now.words.now).rules rule ≡ None) (λ r. slice_get (sheet_meaning self.now.words.now).rules rule ≡ Some (rule_at r.words.now r.width r.at)) }
     {
-        if rule >= self.count {
+        if rule >= self.opening.count {
             return None;
         }
-        Some(self.starts[rule])
+        Some(RuleWords {
+            words: self.words,
+            width: self.opening.width,
+            at: self.opening.starts[rule],
+        })
     }
 }
 
@@ -65,33 +60,30 @@ impl<'a> Book for Sheet<'a> {
     ghost well = { λ s. sheet_well s.words.now };
 
     fn width(&self) -> usize {
-        self.width
+        self.opening.width
     }
 
     fn count(&self) -> usize {
-        self.count
+        self.opening.count
     }
 
     fn kind(&self, rule: usize) -> Option<Kind> {
-        Some(kind_in(self.words, self.width, self.start(rule)?))
+        Some(self.rule(rule)?.kind())
     }
 
     fn rows(&self, rule: usize) -> Option<usize> {
-        Some(rows_in(self.words, self.width, self.start(rule)?))
+        Some(self.rule(rule)?.rows())
     }
 
     fn term(&self, rule: usize, row: usize, column: usize) -> Option<Term> {
-        let at = self.start(rule)?;
-        term_in(self.words, self.width, at, row, column)
+        self.rule(rule)?.term(row, column)
     }
 
     fn left(&self, rule: usize, k: usize) -> Option<u8> {
-        let at = self.start(rule)?;
-        left_in(self.words, self.width, at, k)
+        self.rule(rule)?.left(k)
     }
 
     fn pair(&self, rule: usize, k: usize) -> Option<(Term, Term)> {
-        let at = self.start(rule)?;
-        pair_in(self.words, self.width, at, k)
+        self.rule(rule)?.pair(k)
     }
 }

@@ -1,16 +1,27 @@
 // Where each rule of a sheet begins.
 ghost use Rattle.std.specs.Prelude.{◌≡◌, ℕ, ◌≤◌, length, Ok, Err, MatchResult};
 ghost use Rattle.sheets.specs.Walk.{rules_end, sheet_end};
-ghost use Rattle.sheets.specs.Facts.{Starts, Tabled, Opened};
+ghost use Rattle.sheets.specs.Facts.{Starts, Tabled};
 
 use crate::walk::{rule, word};
 use rules::fault::BookFault;
 
+// The width and the count of a sheet, and where its rules begin: that many places, in an array of as many as there may be,
+// since nothing is allocated here.
 #[derive(Clone, Copy)]
 pub(crate) struct Opening {
     pub width: usize,
     pub count: usize,
     pub starts: [usize; 256],
+}
+
+impl Opening {
+    // Of a sheet that fails the check.
+    pub const EMPTY: Opening = Opening {
+        width: 1,
+        count: 0,
+        starts: [0; 256],
+    };
 }
 
 // Where each of so many rules begins.
@@ -20,8 +31,8 @@ fn starts(words: &[u32], width: usize, count: usize) -> Result<[usize; 256], Boo
 {
     let mut starts = [0usize; 256];
     let mut at = 2;
-    for i in 0..count {
-        starts[i] = at;
+    for start in &mut starts[..count] {
+        *start = at;
         at = rule(words, width, at)?;
     }
     Ok(starts)
@@ -39,21 +50,4 @@ pub(crate) fn table(words: &[u32]) -> Result<Opening, BookFault>
         count,
         starts,
     })
-}
-
-// The same, where a sheet that fails the check has width 1 and no rules.
-pub(crate) fn opened(words: &[u32]) -> Opening
-    ensures { Opened words.now result.width result.count result.starts }
-{
-    match table(words) {
-        Ok(t) => t,
-        Err(_) => {
-            let starts = [0; 256];
-            Opening {
-                width: 1,
-                count: 0,
-                starts,
-            }
-        }
-    }
 }

@@ -1,91 +1,83 @@
-// The walk over the words of a sheet.
-ghost use Rattle.std.specs.Prelude.{◌≡◌, ℕ, ◌+◌, ◌*◌, ◌<◌, ◌≤◌, [], length, IfOk};
-ghost use Rattle.sheets.specs.Walk.{word_in, has, passes, each as each_is, lists_end, rule_end};
+// The walk over the words of a sheet. Each function takes the words and a place and answers the place after what it
+// read, as the definitions do: a walk that kept them in itself and moved would be no plainer, since each of its methods
+// would have to promise besides that the words stay.
+ghost use Rattle.std.specs.Prelude.{◌≡◌, ℕ, Bool, ◌+◌, ◌*◌, ◌<◌, ◌≤◌, [], length, IfOk};
+ghost use Rattle.sheets.specs.Layout.{kind_word};
+ghost use Rattle.sheets.specs.Walk.{word_in, is_listed, is_side, each as each_is, lists_end, rule_end};
 
-use crate::want::{BASE, LIMIT, Want};
+use crate::reads::kind_of;
 use rules::fault::BookFault;
+use rules::term::{BASE, Kind};
+
+// There are 32 variables.
+const LIMIT: u32 = BASE + 32;
 
 // The word at a place, in a range.
 pub(crate) fn word(words: &[u32], at: usize, low: u32, high: u32) -> Result<u32, BookFault>
     ensures value { result ≡ word_in low high words.now at }
     ensures range { IfOk result (λ w. (at < length words.now) × (low ≤ w) × (w ≤ high)) }
 {
-    if at >= words.len() {
-        return Err(BookFault { place: at });
-    }
-    let w = words[at];
-    if w < low {
-        return Err(BookFault { place: at });
-    }
-    if w > high {
-        return Err(BookFault { place: at });
-    }
-    Ok(w)
+    let found = words.get(at).copied();
+    found
+        .filter(|w| (low..=high).contains(w))
+        .ok_or(BookFault { place: at })
 }
 
-// Whether a word is among those of the rows.
-pub(crate) fn among(rows: &[u32], w: u32) -> bool
-    ensures { result ≡ has rows.now w }
+// Whether a word is a variable of the rows.
+fn listed(rows: &[u32], w: u32) -> bool
+    ensures { result ≡ is_listed rows.now w }
 {
-    for x in rows {
-        if *x == w {
-            return true;
-        }
-    }
-    false
+    w >= BASE && rows.contains(&w)
 }
 
-// Whether a word is what is wanted.
-pub(crate) fn fits(want: Want, rows: &[u32], w: u32) -> bool
-    ensures { result ≡ passes want rows.now w }
+// Whether a word is a constant or a variable of the rows.
+fn side(rows: &[u32], w: u32) -> bool
+    ensures { result ≡ is_side rows.now w }
 {
-    match want {
-        Want::Entry => w < LIMIT,
-        Want::Listed => w >= BASE && among(rows, w),
-        Want::Side => w < BASE || among(rows, w),
-    }
+    w < BASE || rows.contains(&w)
 }
 
-// So many words from a place on, each what is wanted: the place after them.
-pub(crate) fn each(
+// So many words from a place on, each as it has to be: the place after them.
+// By the place, which is what a fault tells.
+fn each<F: Fn(u32) -> bool>(
     words: &[u32],
     at: usize,
     count: usize,
-    want: Want,
-    rows: &[u32],
+    fits: F,
 ) -> Result<usize, BookFault>
-    requires { at ≤ length words.now }
-    ensures value { result ≡ each_is want rows.now words.now count at }
+    requires inside { at ≤ length words.now }
+    requires few { count ≤ 64 }
+    requires asks { F.IsAlwaysCallable fits }
+    ensures value { (test : ℕ → Bool) → ((w : ℕ) (b : Bool) → F.post fits w b → b ≡ test w) → result ≡ each_is test words.now count at }
     ensures inside { IfOk result (λ e. (e ≤ length words.now) × (e ≡ at + count)) }
 {
-    let mut here = at;
-    for _i in 0..count {
-        if here >= words.len() {
-            return Err(BookFault { place: here });
+    for place in at..at + count {
+        let fault = BookFault { place };
+        let w = words.get(place).copied().ok_or(fault)?;
+        if !fits(w) {
+            return Err(fault);
         }
-        if !fits(want, rows, words[here]) {
-            return Err(BookFault { place: here });
-        }
-        here += 1;
     }
-    Ok(here)
+    Ok(at + count)
 }
 
 // The lists of a rule, after its rows: the place after them.
-fn lists(words: &[u32], at: usize, kind: u32, rows: &[u32]) -> Result<usize, BookFault>
+fn lists(words: &[u32], at: usize, kind: Kind, rows: &[u32]) -> Result<usize, BookFault>
     requires { at ≤ length words.now }
-    ensures value { result ≡ lists_end words.now rows.now kind at }
+    ensures value { result ≡ lists_end words.now rows.now (kind_word kind) at }
     ensures inside { IfOk result (λ e. e ≤ length words.now) }
 {
-    let functional = kind == 1;
-    let most = if functional { 32 } else { 0 };
+    let most = match kind {
+        Kind::Functional => 32,
+        Kind::Equality => 0,
+    };
     let lefts = word(words, at, 0, most)?;
-    let next = each(words, at + 1, lefts as usize, Want::Listed, rows)?;
+    let next = each(words, at + 1, lefts as usize, |w| listed(rows, w))?;
     let pairs = word(words, next, 0, 32)?;
-    if functional {
-        return each(words, next + 1, pairs as usize, Want::Listed, rows);
+    match kind {
+        Kind::Functional => each(words, next + 1, pairs as usize, |w| listed(rows, w)),
+        Kind::Equality => each(words, next + 1, pairs as usize * 2, |w| side(rows, w)),
     }
-    each(words, next + 1, pairs as usize * 2, Want::Side, rows)
 }
 
 // A rule: the place after it.
@@ -94,8 +86,8 @@ pub(crate) fn rule(words: &[u32], width: usize, at: usize) -> Result<usize, Book
     ensures value { result ≡ rule_end words.now width at }
     ensures inside { IfOk result (λ e. e ≤ length words.now) }
 {
-    let kind = word(words, at, 1, 2)?;
+    let kind = kind_of(word(words, at, 1, 2)?);
     let rows = word(words, at + 1, 1, 4)?;
-    let next = each(words, at + 2, rows as usize * width, Want::Entry, &[])?;
+    let next = each(words, at + 2, rows as usize * width, |w| w < LIMIT)?;
     lists(words, next, kind, &words[at + 2..next])
 }

@@ -6,7 +6,7 @@ use Rattle.text.specs.Lines.{Line, lines_at}
 use Rattle.reader.specs.declared.fault.Cause.TheVariants.{Room}
 use Rattle.reader.specs.declared.fault.ReadFault.{ReadFault}
 use Rattle.reader.specs.Format.{Memo, read_lines, whole_text, nothing, read_text}
-use Rattle.reader.specs.Reads.{Lent, rooms_in}
+use Rattle.reader.specs.Reads.{Lengths, rooms_in}
 use Rattle.spelling.specs.Draft.{Draft, Spells, put_down}
 use Rattle.spelling.specs.Exactly.{ReadFits, FittingReads, RefusedRoom}
 use Rattle.spelling.specs.Room.{FitsIn, put_by, PutDownBy, Begins, FullAt, NoRoom}
@@ -23,7 +23,7 @@ use Rattle.spelling.proofs.Within.{Good}
 whole : (ls : List Line) (y : Memo) → read_lines E 1 whole_text nothing ls ≡ Ok y → PutDownBy (take (length ls) ls) y
 whole ls y q = ap (put_by whole_text nothing) (take_all (length ls) ls (omega arith)) ∙ read-put 1 whole_text nothing ls y q
 
-module _ (lent : Lent) where
+module _ (lent : Lengths) where
   good_fits : (m : Memo) → Good (rooms_in lent) m → FitsIn lent m
   good_fits m g = record { rules = g.rules; targets = g.targets; names = g.names }
 
@@ -63,7 +63,7 @@ read_fits lent text m q =
           (lines_in rooms text),
     )
 
-why_room : (lent : Lent) (text : List ℕ) (n : ℕ) → read_text (rooms_in lent) text ≡ Refused n Room → NoRoom text lent n
+why_room : (lent : Lengths) (text : List ℕ) (n : ℕ) → read_text (rooms_in lent) text ≡ Refused n Room → NoRoom text lent n
 why_room lent text n q = by (leb (length text) 65536) refl q
   where
     full : length text ≤ 65536 → Stops (rooms_in lent) 1 whole_text nothing (lines_at 0 text) → read_lines (rooms_in lent) 1 whole_text nothing (lines_at 0 text) ≡ Refused n Room → FullAt text lent n
@@ -89,7 +89,7 @@ why_room lent text n q = by (leb (length text) 65536) refl q
     by false t e = inl (sym (same_line 0 n Room Room e), leb-false (length text) 65536 t)
 
 -- where both stop
-stops_at : (lent : Lent) (text : List ℕ) (n : ℕ) → FullAt text lent n → (r : Stops (rooms_in lent) 1 whole_text nothing (lines_at 0 text)) → 1 + r.at ≡ n
+stops_at : (lent : Lengths) (text : List ℕ) (n : ℕ) → FullAt text lent n → (r : Stops (rooms_in lent) 1 whole_text nothing (lines_at 0 text)) → 1 + r.at ≡ n
 stops_at lent text n f r = ⊎_elim
     (λ early. absurd (stopped lent text r (fits-less lent r.after f.before (fronts (suc r.at) (n - 1) (lines_at 0 text) r.after f.before (omega arith) r.put_after f.put_before) f.fits)))
     (λ late. ⊎_elim
@@ -98,7 +98,7 @@ stops_at lent text n f r = ⊎_elim
     (cases_lt r.at n))
     (cases_lt (1 + r.at) n)
 
-room-why : (lent : Lent) (text : List ℕ) (n : ℕ) → NoRoom text lent n → read_text (rooms_in lent) text ≡ Refused n Room
+room-why : (lent : Lengths) (text : List ℕ) (n : ℕ) → NoRoom text lent n → read_text (rooms_in lent) text ≡ Refused n Room
 room-why lent text n (inl (z, long)) = cond-false (leb (length text) 65536) (read_lines (rooms_in lent) 1 whole_text nothing (lines_at 0 text)) (Refused 0 Room) (lt-leb _ _ long) ∙ ap (λ i. Refused i Room) (sym z)
 room-why lent text n (inr f) =
     cond-true (leb (length text) 65536) (read_lines (rooms_in lent) 1 whole_text nothing (lines_at 0 text)) (Refused 0 Room) (le-leb _ _ f.short)
@@ -108,7 +108,7 @@ pub refused-room : RefusedRoom
 refused-room lent text n = (why_room lent text n, room-why lent text n)
 
 -- a text that spells something is refused for want of room alone
-pub spelled_refused : (lent : Lent) (text : List ℕ) (d : Draft) (e : ReadFault) → Spells text d → read_text (rooms_in lent) text ≡ Err e → (e.cause ≡ Room) × ((65536 < length text) ⊎ (FitsIn lent (put_down d) → ⊥))
+pub spelled_refused : (lent : Lengths) (text : List ℕ) (d : Draft) (e : ReadFault) → Spells text d → read_text (rooms_in lent) text ≡ Err e → (e.cause ≡ Room) × ((65536 < length text) ⊎ (FitsIn lent (put_down d) → ⊥))
 spelled_refused lent text d e h q = by (leb (length text) 65536) refl q
   where
     by : (t : Bool) → leb (length text) 65536 ≡ t → cond t (read_lines (rooms_in lent) 1 whole_text nothing (lines_at 0 text)) (Refused 0 Room) ≡ Err e → (e.cause ≡ Room) × ((65536 < length text) ⊎ (FitsIn lent (put_down d) → ⊥))

@@ -7,14 +7,14 @@ use Rattle.reader.specs.declared.fault.Cause.TheVariants.{Byte, Form, Count, Unk
 use Rattle.reader.specs.declared.fault.ReadFault.{ReadFault}
 use Rattle.reader.specs.declared.desk.Sizes.{Sizes}
 use Rattle.reader.specs.Format.{Memo, read_text}
-use Rattle.reader.specs.Held.{words_in}
-use Rattle.reader.specs.Reads.{Lent, rooms_in, Holds, Reads, padded, name_of, no_name}
+use Rattle.reader.specs.Lists.{words_in}
+use Rattle.reader.specs.Reads.{Lengths, rooms_in, Holds, Reads, padded, no_name}
 use Rattle.rules.specs.Books.{BookMeaning}
 use Rattle.sheets.specs.Layout.{layout}
 use Rattle.sheets.specs.Laws.{Fitting, WrittenPasses}
 use Rattle.sheets.specs.Reads.{sheet_meaning}
 use Rattle.sheets.specs.Walk.{sheet_end}
-use Rattle.text.specs.Words.{Word}
+use Rattle.text.specs.Words.{name_of, Word}
 use Rattle.spelling.specs.Draft.{Draft, Spells, put_down}
 use Rattle.spelling.specs.Book.{SpellsBook, book_of, targets_of}
 use Rattle.spelling.specs.Laws.{Why, Tells, OpensAs}
@@ -28,10 +28,10 @@ use Rattle.spelling.proofs.Theorems.{read-spells, refused-spells_nothing, refuse
 use Rattle.spelling.proofs.Unique.{draft_alone, spells_one_book}
 
 -- with at most 4,096 places for names there are no more names
-pub few_names : (n : Lent) (text : List ℕ) (m : Memo) → read_text (rooms_in n) text ≡ Ok m → length m.names ≤ 4096
+pub few_names : (n : Lengths) (text : List ℕ) (m : Memo) → read_text (rooms_in n) text ≡ Ok m → length m.names ≤ 4096
 few_names n text m q = le_trans (read_fits n text m q).1.names (min-le_right n.names 4096)
 
-module _ (n : Lent) (text : List ℕ) where
+module _ (n : Lengths) (text : List ℕ) where
   why : (e : Cause) (i : ℕ) → read_text (rooms_in n) text ≡ Refused i e → Why text i e
   why Byte i q = λ other same d h. refused-spells_nothing (rooms_in n) text other Byte i q (λ x. let z : ◌≡◌ {A = ℕ} 0 1 = cc (x) in omega arith) (λ x. let z : ◌≡◌ {A = ℕ} 0 1 = cc (x) in omega arith) same d h
   why Form i q = λ other same d h. refused-spells_nothing (rooms_in n) text other Form i q (λ x. let z : ◌≡◌ {A = ℕ} 0 1 = cc (x) in omega arith) (λ x. let z : ◌≡◌ {A = ℕ} 0 1 = cc (x) in omega arith) same d h

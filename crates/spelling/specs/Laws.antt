@@ -5,14 +5,14 @@ use Rattle.reader.specs.declared.fault.Cause.{Cause}
 use Rattle.reader.specs.declared.fault.Cause.TheVariants.{Byte, Form, Count, Unknown, Room, Lines}
 use Rattle.reader.specs.declared.fault.ReadFault.{ReadFault}
 use Rattle.reader.specs.declared.desk.Sizes.{Sizes}
-use Rattle.reader.specs.Held.{words_in}
-use Rattle.reader.specs.Reads.{Lent, Holds, Blank, padded, name_of, no_name}
+use Rattle.reader.specs.Lists.{words_in}
+use Rattle.reader.specs.Reads.{Lengths, Holds, Blank, padded, no_name}
 use Rattle.rules.specs.Books.{BookMeaning}
 use Rattle.sheets.specs.Layout.{layout}
 use Rattle.sheets.specs.Laws.{Fitting}
 use Rattle.sheets.specs.Reads.{sheet_meaning}
 use Rattle.sheets.specs.Walk.{sheet_end}
-use Rattle.text.specs.Words.{Word}
+use Rattle.text.specs.Words.{name_of, Word}
 use Rattle.text.specs.declared.words.Name.{Name}
 use Rattle.reader.specs.Format.{Rooms, Memo, read_text}
 use Rattle.spelling.specs.Draft.{Draft, Spells, LinesSpell, put_down}
@@ -52,7 +52,7 @@ Why text n Room = Unit {0}
 Why text n Lines = (n ≡ length (lines_at 0 text) + 1) ⊎ ((d : Draft) × LinesSpell (take (n - 1) (lines_at 0 text)) d)
 
 -- the places hold a book and its targets laid out as sheets, and the names, and else zero
-pub record LaidOut (text : List ℕ) (n : Lent) (book aims : BookMeaning) (known : List Word) (rs ts : List ℕ) (ns : List Name) : Type 0 where
+pub record LaidOut (text : List ℕ) (n : Lengths) (book aims : BookMeaning) (known : List Word) (rs ts : List ℕ) (ns : List Name) : Type 0 where
   pub rules : rs ≡ padded n.rules 0 (layout book)
   pub targets : ts ≡ padded n.targets 0 (layout aims)
   pub names : ns ≡ padded n.names no_name (map name_of known)
@@ -65,7 +65,7 @@ pub record OpensAs (words : List ℕ) (book : BookMeaning) : Type 0 where
   pub means : sheet_meaning words ≡ book
 
 -- the text spells a book and targets, one only, and the places hold what it spells, in sheets that open as that
-pub record Told (text : List ℕ) (n : Lent) (s : Sizes) (rs ts : List ℕ) (ns : List Name) : Type 0 where
+pub record Told (text : List ℕ) (n : Lengths) (s : Sizes) (rs ts : List ℕ) (ns : List Name) : Type 0 where
   pub draft : Draft
   pub spells : Spells text draft
   pub holds : (d : Draft) → Spells text d → Holds text n (put_down d) s rs ts ns
@@ -75,11 +75,11 @@ pub record Told (text : List ℕ) (n : Lent) (s : Sizes) (rs ts : List ℕ) (ns 
   pub laid_out : (book targets : BookMeaning) (names : List Word) → SpellsBook text book targets names → LaidOut text n book targets names rs ts ns
 
 -- all places are zero, and the refusal says why; a text that spells something is refused only for want of room
-pub record TurnedDown (text : List ℕ) (n : Lent) (e : ReadFault) (rs ts : List ℕ) (ns : List Name) : Type 0 where
+pub record TurnedDown (text : List ℕ) (n : Lengths) (e : ReadFault) (rs ts : List ℕ) (ns : List Name) : Type 0 where
   pub blank : Blank n rs ts ns
   pub why : Why text e.line e.cause
   pub only_room : (d : Draft) → Spells text d → e.cause ≡ Room
 
-abbrev pub Tells : List ℕ → Lent → Result Sizes ReadFault → List ℕ → List ℕ → List Name → Type 0
+abbrev pub Tells : List ℕ → Lengths → Result Sizes ReadFault → List ℕ → List ℕ → List Name → Type 0
 Tells text n (Ok s) rs ts ns = Told text n s rs ts ns
 Tells text n (Err e) rs ts ns = TurnedDown text n e rs ts ns

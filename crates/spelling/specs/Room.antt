@@ -3,17 +3,17 @@ use Rattle.std.specs.Prelude.{◌≡◌, ℕ, ◌-◌, ◌<◌, ◌≤◌, min, 
 use Rattle.text.specs.Lines.{Line, lines_at}
 use Rattle.reader.specs.declared.fault.Cause.TheVariants.{Lines}
 use Rattle.reader.specs.Format.{endless, Rooms, Memo, Out, Due, then, read_line, whole_text, nothing}
-use Rattle.reader.specs.Reads.{Lent}
+use Rattle.reader.specs.Reads.{Lengths}
 use Rattle.spelling.specs.Draft.{Draft, LinesSpell, put_down}
 
 -- of lent places at most 4,096 are used
-pub record FitsIn (n : Lent) (m : Memo) : Type 0 where
+pub record FitsIn (n : Lengths) (m : Memo) : Type 0 where
   pub rules : length m.rules ≤ min n.rules 4096
   pub targets : length m.targets ≤ min n.targets 4096
   pub names : length m.names ≤ min n.names 4096
 
 -- as many places as are ever used
-abbrev pub most : Lent
+abbrev pub most : Lengths
 most = record { rules = 4096; targets = 4096; names = 4096 }
 
 -- as many places as are wanted
@@ -48,7 +48,7 @@ abbrev pub FirstPutDown : Type 0
 FirstPutDown = (ls more : List Line) (n : Memo) → PutDownBy (ls ++ more) n → (m : Memo) × PutDownBy ls m × Begins m n
 
 -- what the lines before line n put down fits in, and with line n it does not
-pub record FullAt (text : List ℕ) (lent : Lent) (n : ℕ) : Type 0 where
+pub record FullAt (text : List ℕ) (lent : Lengths) (n : ℕ) : Type 0 where
   pub short : length text ≤ 65536
   pub some : 1 ≤ n
   pub there : n ≤ length (lines_at 0 text)
@@ -60,5 +60,5 @@ pub record FullAt (text : List ℕ) (lent : Lent) (n : ℕ) : Type 0 where
   pub full : FitsIn lent after → ⊥
 
 -- the text is too long, or its line n finds no place
-abbrev pub NoRoom : List ℕ → Lent → ℕ → Type 0
+abbrev pub NoRoom : List ℕ → Lengths → ℕ → Type 0
 NoRoom text lent n = ((n ≡ 0) × (65536 < length text)) ⊎ FullAt text lent n

@@ -3,21 +3,22 @@
 
 mod saying;
 
+use rules::term::BASE;
 use saying::{print_search, print_turns};
 use search::row::Row;
 
-// The codes of the variables 0 to 4.
-const A: u32 = 16777216;
+// The words of the variables 0 to 4.
+const A: u32 = BASE;
 
-const B: u32 = 16777217;
+const B: u32 = BASE + 1;
 
-const C: u32 = 16777218;
+const C: u32 = BASE + 2;
 
-const D: u32 = 16777219;
+const D: u32 = BASE + 3;
 
-const E: u32 = 16777220;
+const E: u32 = BASE + 4;
 
-const TOP: u32 = 4294967295;
+const TOP: u32 = u32::MAX;
 
 fn main(rt: HostRuntime) -> anyhow::Result<()> {
     run(&rt)
@@ -99,31 +100,10 @@ fn print_long(rt: &HostRuntime) -> anyhow::Result<()> {
 // More rows than a table has room for.
 fn print_many(rt: &HostRuntime) -> anyhow::Result<()> {
     let words = [2, 1, 1, 1, A, B, 1, A, 1, B];
-    let kept = [
-        row(0, 7),
-        row(1, 7),
-        row(2, 7),
-        row(3, 7),
-        row(4, 7),
-        row(5, 7),
-        row(6, 7),
-        row(7, 7),
-        row(8, 7),
-        row(9, 7),
-    ];
+    let kept = [0, 1, 2, 3, 4, 5, 6, 7, 8, 9].map(|n| row(n, 7));
     print_search(rt, "ten rows kept", &words, 2, &kept)?;
-    let broken = [
-        row(0, 7),
-        row(1, 7),
-        row(2, 7),
-        row(3, 7),
-        row(4, 7),
-        row(5, 7),
-        row(6, 7),
-        row(7, 7),
-        row(8, 7),
-        row(4, 8),
-    ];
+    let mut broken = kept;
+    broken[9] = row(4, 8);
     print_search(rt, "ten rows", &words, 2, &broken)
 }
 
@@ -136,6 +116,6 @@ fn print_rounds(rt: &HostRuntime) -> anyhow::Result<()> {
     print_turns(rt, &words, &rows, 0, 2)?;
     print_turns(rt, &words, &rows, 1, 1)?;
     print_turns(rt, &words, &rows, 2, 1)?;
-    print_turns(rt, &words, &rows, 18446744073709551615, 1)?;
-    print_turns(rt, &words, &rows, 0, 18446744073709551615)
+    print_turns(rt, &words, &rows, usize::MAX, 1)?;
+    print_turns(rt, &words, &rows, 0, usize::MAX)
 }

@@ -8,15 +8,11 @@ use sheets::sheet::Sheet;
 fn print_found(rt: &HostRuntime, found: Option<Spot>) -> anyhow::Result<()> {
     match found {
         Some(spot) => {
-            let rule = spot.rule;
-            let pair = spot.pair;
-            let one = spot.one;
-            let other = spot.other;
-            print!(rt; "rule {rule}, pair {pair}, places")?;
+            print!(rt; "rule {}, pair {}, places", spot.rule, spot.pair)?;
             for place in spot.places {
                 print!(rt; " {place}")?;
             }
-            println!(rt; ": {one} and {other}")?;
+            println!(rt; ": {} and {}", spot.one, spot.other)?;
         }
         None => println!(rt; "kept")?,
     }
@@ -31,11 +27,8 @@ pub fn print_search(
     width: usize,
     rows: &[Row],
 ) -> anyhow::Result<()> {
-    let sheet = Sheet::open(words);
-    let relation = Table::new(rows, width);
-    let mut scratch = Scratch::new();
     print!(rt; "{name}: ")?;
-    print_found(rt, find_break(&relation, &sheet, 0, 1024, &mut scratch))
+    print_break(rt, &Sheet::open(words), &Table::new(rows, width), 0, 1024)
 }
 
 // So many turns from a rule on.
@@ -46,12 +39,17 @@ pub fn print_turns(
     first: usize,
     turns: usize,
 ) -> anyhow::Result<()> {
-    let sheet = Sheet::open(words);
-    let relation = Table::new(rows, 2);
-    let mut scratch = Scratch::new();
     print!(rt; "{turns} turns from rule {first}: ")?;
-    print_found(
-        rt,
-        find_break(&relation, &sheet, first, turns, &mut scratch),
-    )
+    print_break(rt, &Sheet::open(words), &Table::new(rows, 2), first, turns)
+}
+
+fn print_break(
+    rt: &HostRuntime,
+    book: &Sheet<'_>,
+    relation: &Table<'_>,
+    first: usize,
+    turns: usize,
+) -> anyhow::Result<()> {
+    let mut scratch = Scratch::new();
+    print_found(rt, find_break(relation, book, first, turns, &mut scratch))
 }

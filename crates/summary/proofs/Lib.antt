@@ -1,4 +1,3 @@
 mod Steps
-mod Quotes
 mod Sayings
 mod Stand

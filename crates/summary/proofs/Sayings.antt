@@ -3,13 +3,13 @@ use Rattle.std.proofs.Common.{◌≡◌, ℕ, ◌-◌, List, map, length, take, 
 use lib.Seq.{take-append_seam}
 use Rattle.std.proofs.lemmas.List.{length-map}
 use Rattle.text.specs.declared.words.Name.{Name}
-use Rattle.text.specs.Words.{Word}
+use Rattle.text.specs.Words.{name_of, Word}
 use Rattle.sheets.specs.Reads.{sheet_meaning}
 use Rattle.reader.specs.declared.fault.ReadFault.{ReadFault}
 use Rattle.reader.specs.declared.desk.Sizes.{Sizes}
 use Rattle.reader.specs.Format.{Memo, read_text}
-use Rattle.reader.specs.Held.{words_in}
-use Rattle.reader.specs.Reads.{Lent, Reads, rooms_in, name_of, no_name, padded}
+use Rattle.reader.specs.Lists.{words_in}
+use Rattle.reader.specs.Reads.{Lengths, Reads, rooms_in, no_name, padded}
 use Rattle.spelling.specs.Draft.{put_down}
 use Rattle.spelling.specs.Book.{book_of, targets_of}
 use Rattle.spelling.specs.Laws.{Told}
@@ -22,7 +22,7 @@ names_front known size n ns e f =
     let a : n ≡ length (map name_of known) = e ∙ sym (length-map known name_of) in
     (λ i. take (a i) (f i)) ∙ take-append_seam (map name_of known) rest
 
-pub said_read : (text : List ℕ) (n : Lent) (s : Sizes) (rs ts : List ℕ) (ns : List Name) (bytes : List ℕ) →
+pub said_read : (text : List ℕ) (n : Lengths) (s : Sizes) (rs ts : List ℕ) (ns : List Name) (bytes : List ℕ) →
     Reads text n (read_text (rooms_in n) text) (Ok s) rs ts ns → Told text n s rs ts ns →
     bytes ≡ summary_text (sheet_meaning rs) (sheet_meaning ts) (words_in text (take s.names ns)) → Said text (read_text (rooms_in n) text) bytes
 said_read text n s rs ts ns bytes reads told e =
@@ -38,6 +38,6 @@ said_read text n s rs ts ns bytes reads told e =
     let sum : Summed text bytes = record { book = book_of d; targets = targets_of d; names = known; spelled = told.spelled; says = says } in
     subst (λ (o : Result Memo ReadFault). Said text o bytes) (sym reads.1) sum
 
-pub said_refused : (text : List ℕ) (n : Lent) (f : ReadFault) (rs ts : List ℕ) (ns : List Name) (bytes : List ℕ) →
+pub said_refused : (text : List ℕ) (n : Lengths) (f : ReadFault) (rs ts : List ℕ) (ns : List Name) (bytes : List ℕ) →
     Reads text n (read_text (rooms_in n) text) (Err f) rs ts ns → bytes ≡ refused_text text f → Said text (read_text (rooms_in n) text) bytes
 said_refused text n f rs ts ns bytes reads e = subst (λ (o : Result Memo ReadFault). Said text o bytes) (sym reads.0) e

@@ -11,7 +11,7 @@ use Rattle.rules.specs.declared.term.Kind.TheVariants.{Functional, Equality}
 use Rattle.reader.specs.declared.fault.ReadFault.{ReadFault}
 use Rattle.reader.specs.Faults.{read_refusal}
 use Rattle.reader.specs.Format.{Memo, read_text}
-use Rattle.reader.specs.Reads.{Lent, rooms_in}
+use Rattle.reader.specs.Reads.{Lengths, rooms_in}
 use Rattle.writing.specs.Reports.{refusal_text}
 use Rattle.spelling.specs.Book.{SpellsBook}
 
@@ -108,7 +108,7 @@ Said text (Ok m) bytes = Summed text bytes
 Said text (Err e) bytes = bytes ≡ refused_text text e
 
 -- as many places as a reader uses
-abbrev pub most_lent : Lent
+abbrev pub most_lent : Lengths
 most_lent = record { rules = 4096; targets = 4096; names = 4096 }
 
 -- what is said of a text that is read with all places

@@ -1,24 +1,26 @@
 // The lines on which the rules of a book begin.
 ghost use Rattle.std.specs.Prelude.{◌≡◌, ◌+◌, ◌^◌, ◌<◌, ◌≤◌, ◌++◌, IfOk, Some, OnOk};
+ghost use Rattle.rules.specs.Loaded.{meant, Sized};
 ghost use Rattle.rules.specs.Rules.{Rule};
 ghost use Rattle.std.specs.List.{slice_get};
-ghost use Rattle.summary.specs.Summary.{after, begins, begins_text, list_lines, rule_lines};
+ghost use Rattle.summary.specs.Summary.{after, begins, begins_text, rule_lines};
 
 use crate::putting::push_begin;
 use rules::book::Book;
 use rules::load::load;
+use rules::loaded::LoadedRule;
 use rules::term::Kind;
-use std::alloc::{AllocError, Global};
+use std::alloc::AllocError;
 
-// How many lines write a rule of this kind with so many rows, left variables and pairs.
-fn lines_of(kind: Kind, rows: usize, left: usize, pairs: usize) -> usize
-    requires { (rows ≤ 4) × (left ≤ 32) × (pairs ≤ 32) }
-    ensures is { result ≡ (2 + rows) + list_lines kind left pairs }
+// How many lines write a rule.
+fn lines_of(it: &LoadedRule) -> usize
+    requires { Sized it.now }
+    ensures is { result ≡ rule_lines (meant it.now) }
     ensures few { result ≤ 72 }
 {
-    match kind {
-        Kind::Functional => 4 + rows + left + pairs,
-        Kind::Equality => 3 + rows + pairs,
+    match it.kind {
+        Kind::Functional => 4 + it.row_count + it.left_count + it.pair_count,
+        Kind::Equality => 3 + it.row_count + it.pair_count,
     }
 }
 
@@ -27,15 +29,11 @@ fn count_lines<B: Book>(book: &B, rule: usize) -> usize
     ensures is { (it : Rule) → slice_get (B.meaning book.now).rules rule ≡ Some it → result ≡ rule_lines it }
     ensures few { result ≤ 72 }
 {
-    match load(book, rule) {
-        None => 0,
-        Some(it) => lines_of(it.kind, it.row_count, it.left_count, it.pair_count),
-    }
+    load(book, rule).map_or(0, |it| lines_of(&it))
 }
 
 // Adds a line for each rule, of which the first begins on the line `first`, and gives the line after the last.
 pub(crate) fn push_begins<B: Book>(
-    heap: Global,
     out: &mut Vec<u8>,
     book: &B,
     what: &str,
@@ -47,7 +45,7 @@ pub(crate) fn push_begins<B: Book>(
 {
     let mut line = first;
     for rule in 0..book.count() {
-        push_begin(heap, out, what, rule + 1, line)?;
+        push_begin(out, what, rule + 1, line)?;
         line += count_lines(book, rule);
     }
     Ok(line)

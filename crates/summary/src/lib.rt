@@ -4,6 +4,6 @@
 mod beginning;
 pub mod laws;
 mod putting;
-mod quoting;
+pub mod quoting;
 pub mod summary;
-mod telling;
+pub mod telling;

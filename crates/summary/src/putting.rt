@@ -1,36 +1,31 @@
 // Bytes added one after another.
-ghost use Rattle.std.specs.Prelude.{◌≡◌, ◌++◌, IfOk, string_bytes, OnOk};
-ghost use Rattle.summary.specs.Summary.{begin_text, count_text, ending, head_text, name_text};
+ghost use Rattle.std.specs.Prelude.{◌≡◌, ◌++◌, OnOk, Some};
+ghost use Rattle.summary.specs.Summary.{begin_text, count_text, head_text, name_text};
 ghost use Rattle.text.specs.Words.{word_in};
 
-use std::alloc::{AllocError, Global};
+use std::alloc::AllocError;
+use std::fmt;
 use text::words::{Name, part_of};
 
-// Adds bytes.
-pub(crate) fn push_bytes(out: &mut Vec<u8>, bytes: &[u8]) -> Result<(), AllocError>
-    ensures { OnOk result (out.new.items ≡ out.old.items ++ bytes.now) }
-{
-    out.extend_from_slice(bytes)
+// So many things.
+#[derive(Clone, Copy)]
+struct Many<'t> {
+    count: usize,
+    thing: &'t str,
 }
 
-// The end of a word for so many things.
-fn plural(n: usize) -> &'static str
-    ensures { result.now ≡ ending n }
-{
-    if n == 1 { "" } else { "s" }
-}
+impl fmt::Display for Many<'_> {
+    ghost output = { λ many. Some (count_text many.count many.thing.now) };
 
-// So many things, in words.
-fn count_text(heap: Global, n: usize, thing: &str) -> Result<String, AllocError>
-    ensures { IfOk result (λ s. string_bytes s ≡ count_text n thing.now) }
-{
-    let end = plural(n);
-    format!(in heap; "{n} {thing}{end}")
+    fn fmt<W: fmt::Write>(&self, f: &mut fmt::Formatter<W>) -> fmt::Result {
+        let end = if self.count == 1 { "" } else { "s" };
+        write!(f, "{} {}{end}", self.count, self.thing)
+    }
 }
 
 // Adds the first line: the width, and how many rules, targets and constants there are.
+#[tactic(auto, unfolding(crate::specs::Summary::head_text))]
 pub(crate) fn push_head(
-    heap: Global,
     out: &mut Vec<u8>,
     width: usize,
     rules: usize,
@@ -39,17 +34,25 @@ pub(crate) fn push_head(
 ) -> Result<(), AllocError>
     ensures { OnOk result (out.new.items ≡ out.old.items ++ head_text width rules targets names) }
 {
-    let one = count_text(heap, rules, "rule")?;
-    let two = count_text(heap, targets, "target")?;
-    let three = count_text(heap, names, "constant")?;
-    let line = format!(in heap; "width {width}, {one}, {two}, {three}\n")?;
-    push_bytes(out, line.as_bytes())?;
-    Ok(())
+    let rules = Many {
+        count: rules,
+        thing: "rule",
+    };
+    let targets = Many {
+        count: targets,
+        thing: "target",
+    };
+    let names = Many {
+        count: names,
+        thing: "constant",
+    };
+    let line = format!(in *out.allocator(); "width {width}, {rules}, {targets}, {names}\n")?;
+    out.extend_from_slice(line.as_bytes())
 }
 
 // Adds the line of constant i.
+#[tactic(auto, unfolding(crate::specs::Summary::name_text))]
 pub(crate) fn push_name(
-    heap: Global,
     out: &mut Vec<u8>,
     text: &[u8],
     i: usize,
@@ -57,16 +60,15 @@ pub(crate) fn push_name(
 ) -> Result<(), AllocError>
     ensures { OnOk result (out.new.items ≡ out.old.items ++ name_text i (word_in text.now name)) }
 {
-    let head = format!(in heap; "constant {i} ")?;
-    push_bytes(out, head.as_bytes())?;
-    push_bytes(out, part_of(text, name))?;
-    push_bytes(out, b"\n")?;
-    Ok(())
+    let head = format!(in *out.allocator(); "constant {i} ")?;
+    out.extend_from_slice(head.as_bytes())?;
+    out.extend_from_slice(part_of(text, name))?;
+    out.extend_from_slice(b"\n")
 }
 
 // Adds the line of rule or target i.
+#[tactic(auto, unfolding(crate::specs::Summary::begin_text))]
 pub(crate) fn push_begin(
-    heap: Global,
     out: &mut Vec<u8>,
     what: &str,
     i: usize,
@@ -74,6 +76,6 @@ pub(crate) fn push_begin(
 ) -> Result<(), AllocError>
     ensures { OnOk result (out.new.items ≡ out.old.items ++ begin_text what.now i line) }
 {
-    let text = format!(in heap; "{what} {i} line {line}\n")?;
-    push_bytes(out, text.as_bytes())
+    let text = format!(in *out.allocator(); "{what} {i} line {line}\n")?;
+    out.extend_from_slice(text.as_bytes())
 }

@@ -1,4 +1,4 @@
-pub mod Taken
+pub mod Found
 pub mod Steps
 pub mod Runs
 pub mod Parts

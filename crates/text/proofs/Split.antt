@@ -1,16 +1,11 @@
 -- The lines of a text, one at a time.
-use Rattle.std.proofs.Common.{◌≡◌, ℕ, suc, ◌+◌, ◌-◌, ◌<◌, Bool, true, false, List, [], ◌∷◌, length, take, drop, ap, ◌∙◌, ⊎_elim, one-add, arith, length-drop}
+use Rattle.std.proofs.Common.{◌≡◌, ℕ, suc, ◌+◌, ◌-◌, ◌<◌, List, [], ◌∷◌, length, take, drop, ap, ◌∙◌, ⊎_elim, arith, length-drop}
 use Rattle.std.specs.List.{prefix_len}
 use Rattle.std.proofs.lemmas.List.{drop-drop}
 use Rattle.std.proofs.lemmas.Slice.{between_is}
 use Rattle.std.proofs.lemmas.Bool.{cond-true, cond-false, cases_Bool}
+use Rattle.text.proofs.Found.{leading_yes, leading_no}
 use Rattle.text.specs.Lines.{in_line, begun, lines_at, line_at, lines_from}
-
-leading_yes : {X : Type 0} (p : X → Bool) (x : X) (xs : List X) → p x ≡ true → prefix_len p (x ∷ xs) ≡ suc (prefix_len p xs)
-leading_yes p x xs e = cond-true (p x) _ _ e ∙ one-add _
-
-leading_no : {X : Type 0} (p : X → Bool) (x : X) (xs : List X) → p x ≡ false → prefix_len p (x ∷ xs) ≡ 0
-leading_no p x xs e = cond-false (p x) _ _ e
 
 pub lines_first : (p : ℕ) (b : ℕ) (bs : List ℕ) → lines_at p (b ∷ bs) ≡ record { place = p; bytes = take (prefix_len in_line (b ∷ bs)) (b ∷ bs) } ∷ lines_at (p + suc (prefix_len in_line (b ∷ bs))) (drop (suc (prefix_len in_line (b ∷ bs))) (b ∷ bs))
 lines_first p b [] =

@@ -1,5 +1,6 @@
 -- The lines of a text: it is split at each byte 10. A last line may lack that byte, and the empty text has no lines.
-use Rattle.std.specs.Prelude.{ℕ, suc, Bool, true, cond, not, ◌&&◌, List, [], ◌∷◌, take, drop, ◌==◌, nat_le}
+use Rattle.std.specs.Prelude.{ℕ, suc, Bool, cond, not, ◌&&◌, List, [], ◌∷◌, take, drop, ◌==◌, nat_le}
+use Rattle.std.specs.List.{list_all}
 
 -- a line: its place in the text, and its bytes
 pub record Line : Type 0 where
@@ -29,5 +30,4 @@ line_at text from end = record { place = from; bytes = drop from (take end text)
 
 -- every byte stands between 0x20 and 0x7E
 abbrev pub clean : List ℕ → Bool
-clean [] = true
-clean (b ∷ bs) = (nat_le 32 b && nat_le b 126) && clean bs
+clean bs = list_all (λ b. nat_le 32 b && nat_le b 126) bs

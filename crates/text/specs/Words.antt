@@ -1,5 +1,5 @@
 -- The words of a line: the longest runs of bytes that are no spaces.
-use Rattle.std.specs.Prelude.{ℕ, suc, ◌-◌, Bool, false, cond, not, ◌&&◌, List, [], ◌∷◌, ◌++◌, map, length, take, drop, ◌==◌, nat_le}
+use Rattle.std.specs.Prelude.{ℕ, suc, ◌+◌, ◌-◌, ◌<◌, ◌≤◌, Bool, false, cond, not, ◌&&◌, List, [], ◌∷◌, ◌++◌, map, length, take, drop, ◌==◌, nat_le}
 use Rattle.std.specs.List.{prefix_len}
 use Rattle.std.specs.Str.{bytes_eq}
 use Rattle.text.specs.declared.words.Name.{Name}
@@ -39,6 +39,17 @@ part text n = take n.length (drop n.place text)
 
 abbrev pub word_in : List ℕ → Name → Word
 word_in text n = record { place = n.place; bytes = part text n }
+
+-- the name that a word has in its text
+abbrev pub name_of : Word → Name
+name_of w = record { place = w.place; length = length w.bytes }
+
+-- the name of a word of the line of a text from the place `from` up to `end`
+pub record Stands (text : List ℕ) (from end : ℕ) (n : Name) : Type 0 where
+  pub after : from ≤ n.place
+  pub filled : 0 < n.length
+  pub within : n.place + n.length ≤ end
+  pub inside : n.place + n.length ≤ length text
 
 -- the bytes of words
 abbrev pub bytes_of : List Word → List (List ℕ)

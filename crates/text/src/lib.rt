@@ -3,6 +3,7 @@
 
 pub mod counts;
 pub mod laws;
+pub mod line_words;
 pub mod lines;
 pub mod list;
 pub mod words;

@@ -1,8 +1,12 @@
-// A list over places that the caller lends. Of these at most the first 4,096 are used.
-ghost use Rattle.std.specs.Prelude.{◌≡◌, ℕ, ◌+◌, ◌-◌, ◌<◌, ◌≤◌, List, [], ◌∷◌, ◌++◌, length, take, replicate, MatchResult};
+// A list over places that the caller lends.
+ghost use Rattle.std.specs.Prelude.{◌≡◌, ◌+◌, ◌-◌, ◌<◌, ◌≤◌, [], ◌∷◌, ◌++◌, length, take, replicate, MatchResult};
 ghost use Rattle.std.specs.List.{slice_get};
 ghost use Rattle.text.specs.Filled.{items, room, Same};
 
+// How many elements a list holds at most, however many places are lent.
+pub const CAPACITY: usize = 4_096;
+
+// One list over lent places serves every type of element, pushed and read by the functions below: nothing is allocated here.
 #[derive(Drop)]
 pub struct Places<'a, T: Copy> {
     pub places: &'a mut [T],
@@ -10,7 +14,7 @@ pub struct Places<'a, T: Copy> {
 }
 
 // No place is left.
-#[derive(Clone, Copy)]
+#[derive(Clone, Copy, PartialEq, Eq, Debug)]
 pub struct Full;
 
 // Takes x at the end, or refuses when no place is left.
@@ -24,46 +28,28 @@ pub fn push<T: Copy>(list: &mut Places<T>, x: T) -> Result<(), Full>
         × (list.new.used ≡ list.old.used)
         × (items list.new ≡ items list.old)) }
 {
-    if list.used < list.places.len() && list.used < 4096 {
-        list.places[list.used] = x;
-        list.used += 1;
-        return Ok(());
+    if list.used >= list.places.len().min(CAPACITY) {
+        return Err(Full);
     }
-    Err(Full)
-}
-
-// The one at a place of the first `used`, or none.
-fn get_from<T: Copy>(places: &[T], used: usize, i: usize) -> Option<T>
-    ensures { result ≡ slice_get (take used places.now) i }
-{
-    if i >= used {
-        return None;
-    }
-    if i >= places.len() {
-        return None;
-    }
-    Some(places[i])
+    list.places[list.used] = x;
+    list.used += 1;
+    Ok(())
 }
 
 // The one at a place, or none past the end.
 pub fn get<T: Copy>(list: &Places<T>, i: usize) -> Option<T>
     ensures { result ≡ slice_get (items list.now) i }
 {
-    get_from(list.places, list.used, i)
+    let used = list.used.min(list.places.len());
+    list.places[..used].get(i).copied()
 }
 
 // Puts zero into each place from `from` on.
 pub fn blank_from<T: Copy>(places: &mut [T], from: usize, zero: T)
     ensures { places.new ≡ take from places.old ++ replicate (length places.old - from) zero }
 {
-    if from > places.len() {
-        return;
-    }
-    let mut i = from;
-    while i < places.len() {
-        places[i] = zero;
-        i += 1;
-    }
+    let from = from.min(places.len());
+    places[from..].fill_with(|| zero);
 }
 
 // Puts zero into each place that is not used.

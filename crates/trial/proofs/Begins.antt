@@ -1,81 +1,68 @@
 -- A trial as it starts.
-use Rattle.std.proofs.Common.{◌≡◌, ℕ, ◌+◌, ◌<◌, ◌≤◌, Bool, true, false, cond, ◌≢◌, List, length, get_or, Some, sym, ap, ◌∙◌, subst, arith}
-use Rattle.rules.specs.declared.term.Term.{Term}
+use Rattle.std.proofs.Common.{◌≡◌, ℕ, ◌+◌, ◌<◌, ◌≤◌, false, List, Some, None, Ok, Err, Option, sym, ap, ◌∙◌, subst, arith}
+use Rattle.std.proofs.lemmas.Bool.{false≢true}
 use Rattle.rules.specs.declared.loaded.LoadedRule.{LoadedRule}
+use Rattle.rules.specs.declared.term.Term.TheVariants.{Variable}
 use Rattle.rules.specs.Rules.{Pattern, Rule}
-use Rattle.rules.specs.Books.{BookMeaning, base, WellFormedBook}
-use Rattle.rules.specs.Doubled.{doubled_rows}
-use Rattle.rules.specs.Loaded.{DoubledOf, meant}
-use Rattle.rules.proofs.Nths.{nth_member}
+use Rattle.rules.specs.Books.{BookMeaning, base, Stands, WellFormedBook}
+use Rattle.rules.specs.Doubled.{doubled, doubled_rows, doubled_pairs}
+use Rattle.rules.specs.Loaded.{DoubledOf, Form, meant}
 use Rattle.law.specs.Groups.{Alone, group_count}
-use Rattle.law.specs.Calls.{View, Blank, Going, fresh, Done, Refused, Starts, begun, not_blank, no_rule, targets_width}
-use Rattle.law.proofs.Starting.{Fit, starts_fit}
+use Rattle.law.specs.Stored.{stored}
+use Rattle.law.specs.Calls.{Blank, Going, fresh, Start, Done, Refused, Starts, begun, not_blank, no_rule, targets_width}
 use Rattle.law.proofs.Shown.{alone_counts, few_symbols}
+use Rattle.law.proofs.Stands.{call_promised}
 use Rattle.trial.specs.declared.fault.TrialFault.{TrialFault}
 use Rattle.trial.specs.declared.fault.TrialFault.TheVariants.{NotBlank, NoRule, WidthsDiffer, StillBlank}
 use Rattle.trial.specs.Faults.{refused}
-use Rattle.trial.specs.Stepping.{StartDue}
+use Rattle.trial.specs.Stepping.{StartDue, StartedHeld}
 use Rattle.trial.specs.declared.held.Held.{Held}
-use Rattle.trial.specs.Views.{rows_of, shows_of, groups_of, going, view}
+use Rattle.trial.specs.Views.{shows_of, going, view}
 
-pub view-blank : (h : Held) → h.begun ≡ false → view h ≡ Blank
-view-blank h e = ap (λ (c : Bool). cond c (Going (going h)) Blank) e
+-- 64 symbols alone in their groups are at most 64 groups
+near : {width : ℕ} (r : Rule) → Form width r → (v : ℕ) → Stands v r.pattern → v < 64
+near r form v (row, m, n) = form.small row m (Variable v) n
 
-pub view-going : (h : Held) → h.begun ≡ true → view h ≡ Going (going h)
-view-going h e = ap (λ (c : Bool). cond c (Going (going h)) Blank) e
+pub few_groups : {width : ℕ} (r : Rule) → Form width r → (shown : List ℕ) → ((v : ℕ) → v < 64 → stored shown v ≡ base + v) → group_count r.pattern (stored shown) ≤ 64
+few_groups r form shown alone =
+    omega (arith, alone_counts (stored shown) r.pattern (λ v stands. alone v (near r form v stands)), few_symbols r.pattern (near r form))
 
-abbrev pub begun_on : LoadedRule → List ℕ → Held
-begun_on d shown = record { begun = true; target = d; shown = shown; merges = 0; clashed = false; at = 0 }
+module _ (targets : BookMeaning) (k : ℕ) (d : LoadedRule) (of : DoubledOf targets k d) where
+  pub formed : Form d.width (meant d)
+  formed = subst (λ w. Form w (meant d)) (sym of.width) of.form
 
-module _ (targets : BookMeaning) (fits : WellFormedBook targets) (k : ℕ) (d : LoadedRule) (doubled : DoubledOf targets k d)
-    (h : Held) (is : h ≡ begun_on d h.shown) (alone : (v : ℕ) → v < 64 → get_or h.shown v 0 ≡ base + v) where
-  t : Rule
-  t = doubled.rule
-
-  fit : Fit targets (doubled_rows doubled.rule)
-  fit = starts_fit targets fits doubled.rule (fits.rules_fit doubled.rule (nth_member targets.rules k doubled.rule doubled.there))
-
-  rows_are : rows_of h ≡ doubled_rows doubled.rule
-  rows_are = ap (λ (x : Held). rows_of x) is ∙ ap (λ (r : Rule). r.pattern) doubled.is
-
-  apart : Alone (doubled_rows doubled.rule) (shows_of h)
-  apart v stands = alone v (fit.near v stands)
-
-  pub begins-few : h.merges + groups_of h ≤ 64
-  begins-few =
-      let none : h.merges ≡ 0 = ap (λ (x : Held). x.merges) is in
-      let P : Pattern → Type 0 = λ p. group_count p (shows_of h) ≤ 64 in
-      let least : group_count (doubled_rows doubled.rule) (shows_of h) ≤ 64 = omega (arith, alone_counts (shows_of h) (doubled_rows doubled.rule) apart, few_symbols (doubled_rows doubled.rule) fit.near) in
-      let all : groups_of h ≤ 64 = subst P (sym rows_are) least in
-      omega arith
-
-  pub begins : (b : BookMeaning) → targets.width ≡ b.width → (x : View) → x ≡ Blank → Starts b targets k x Done (view h)
-  begins b width x blank =
-      let F : ℕ → Pattern → List (Term × Term) → View = λ w p q. Going (record { width = w; rows = p; pairs = q; shows = shows_of h; merges = 0; clashed = false }) in
-      let seen : view h ≡ Going (fresh targets.width doubled.rule (shows_of h)) =
-      ap view is
-      ∙ ap (λ (w : ℕ). F w (meant d).pattern (meant d).pairs) doubled.width
-      ∙ ap (λ (p : Pattern). F targets.width p (meant d).pairs) (ap (λ (r : Rule). r.pattern) doubled.is)
-      ∙ ap (λ (q : List (Term × Term)). F targets.width (doubled_rows doubled.rule) q) (ap (λ (r : Rule). r.pairs) doubled.is)
-      in
-      let P : View → Type 0 = λ y. Starts b targets k Blank Done y in
-      let Q : View → Type 0 = λ y. Starts b targets k y Done (view h) in
-      subst Q (sym blank) (subst P (sym seen) (begun doubled.there width apart))
-
--- the tests of a start, in their order
-module _ (b targets : BookMeaning) (k : ℕ) (h : Held) where
-  pub start-taken : h.begun ≡ true → Starts b targets k (view h) (Refused 10 0) (view h)
-  start-taken e = subst (λ (z : View). Starts b targets k z (Refused 10 0) z) (sym (view-going h e)) not_blank
-
-  pub start-past : h.begun ≡ false → length targets.rules ≤ k → Starts b targets k (view h) (Refused 8 k) (view h)
-  start-past e l = subst (λ (z : View). Starts b targets k z (Refused 8 k) z) (sym (view-blank h e)) (no_rule l)
-
-  pub start-apart : h.begun ≡ false → k < length targets.rules → targets.width ≢ b.width → Starts b targets k (view h) (Refused 9 0) (view h)
-  start-apart e l d = subst (λ (z : View). Starts b targets k z (Refused 9 0) z) (sym (view-blank h e)) (targets_width l d)
+  pub begins : (b : BookMeaning) → targets.width ≡ b.width → (h : Held) → h.target ≡ d → ((v : ℕ) → v < 64 → stored h.shown v ≡ base + v) →
+      h.merges ≡ 0 → h.clashed ≡ false → Starts b targets k Blank Done (view (Some h))
+  begins b width h is alone none calm =
+      let t = of.rule in
+      let means : meant h.target ≡ doubled t = ap (λ (l : LoadedRule). meant l) is ∙ of.is in
+      let wide : h.target.width ≡ targets.width = ap (λ (l : LoadedRule). l.width) is ∙ of.width in
+      let rows : (meant h.target).pattern ≡ doubled_rows t = ap (λ (r : Rule). r.pattern) means in
+      let pairs : (meant h.target).pairs ≡ doubled_pairs t = ap (λ (r : Rule). r.pairs) means in
+      let seen : going h ≡ fresh targets.width t (shows_of h) = cc in
+      subst (λ y. Starts b targets k Blank Done (Going y)) (sym seen) (begun of.there width (subst (λ (p : Pattern). Alone p (shows_of h)) rows (λ v stands. alone v (near (meant h.target) (subst (λ (l : LoadedRule). Form l.width (meant l)) (sym is) formed) v stands))))
 
 -- each refusal of a start leaves the trial as it was
-pub start-refused : (b targets : BookMeaning) (k : ℕ) (h : Held) (e : TrialFault) → StartDue b targets k h (Some e) → Starts b targets k (view h) (refused e) (view h)
-start-refused b targets k h NotBlank due = start-taken b targets k h due
-start-refused b targets k h (NoRule j) (e, l, same) = subst (λ (i : ℕ). Starts b targets k (view h) (Refused 8 i) (view h)) (sym same) (start-past b targets k h e l)
-start-refused b targets k h WidthsDiffer (e, l, d) = start-apart b targets k h e l d
-start-refused b targets k h StillBlank due = absurd due
+pub start_refused : (b targets : BookMeaning) (k : ℕ) (o : Option Held) (e : TrialFault) → StartDue b targets k o (Err e) → Starts b targets k (view o) (refused e) (view o)
+start_refused b targets k None NotBlank due = absurd (false≢true due)
+start_refused b targets k (Some h) NotBlank due = not_blank
+start_refused b targets k o (NoRule j) (is, past, same) =
+    subst (λ (z : Option Held). Starts b targets k (view z) (Refused 8 j) (view z)) (sym is)
+    (subst (λ (i : ℕ). Starts b targets k Blank (Refused 8 i) Blank) (sym same) (no_rule past))
+start_refused b targets k o WidthsDiffer (is, within, d) =
+    subst (λ (z : Option Held). Starts b targets k (view z) (Refused 9 0) (view z)) (sym is) (targets_width within d)
+start_refused b targets k o StillBlank due = absurd due
+
+-- and keeps the promise
+module _ (b : BookMeaning) (fits : WellFormedBook b) (targets : BookMeaning) (targets_fit : WellFormedBook targets) (k : ℕ) (o : Option Held) where
+  pub refused_held : (e : TrialFault) → StartDue b targets k o (Err e) → StartedHeld b targets k o (Err e)
+  refused_held e due =
+      let step = start_refused b targets k o e due in
+      (step, call_promised b fits (Start targets k) targets_fit (view o) (refused e) (view o) step)
+
+  pub started_held : o ≡ None → targets.width ≡ b.width → (d : LoadedRule) → DoubledOf targets k d → (h : Held) → h.target ≡ d →
+      ((v : ℕ) → v < 64 → stored h.shown v ≡ base + v) → h.merges ≡ 0 → h.clashed ≡ false → StartedHeld b targets k o (Ok h)
+  started_held blank width d of h is alone none calm =
+      let P : Option Held → Type 0 = λ z. Starts b targets k (view z) Done (view (Some h)) in
+      let step = subst P (sym blank) (begins targets k d of b width h is alone none calm) in
+      (step, call_promised b fits (Start targets k) targets_fit (view o) Done (view (Some h)) step)

@@ -1,120 +1,98 @@
 -- The record as merging goes on.
-use Rattle.std.proofs.Common.{◌≡◌, ℕ, suc, ◌+◌, ◌<◌, ◌≤◌, min, max, Bool, true, false, ◌⊎◌, List, length, sym, refl, ap, ◌∙◌, subst, inl, inr, add-zero, arith}
-use mathlib.Core.List.Memᴰ
-use Rattle.std.specs.List.{range_with_len}
-use Rattle.std.proofs.lemmas.Bool.{cases_lt}
+use Rattle.std.proofs.Common.{◌≡◌, ℕ, suc, ◌+◌, ◌<◌, ◌≤◌, min, max, true, false, List, length, sym, refl, ap, ◌∙◌, subst, arith}
+use Rattle.std.proofs.Math.Nat.{ℕ_set}
+use Rattle.std.proofs.Math.Logic.{∥∥₁_elim}
 use Rattle.rules.specs.declared.term.Term.{Term}
+use Rattle.rules.specs.declared.term.Term.TheVariants.{Constant, Variable}
 use Rattle.rules.specs.declared.loaded.LoadedRule.{LoadedRule}
-use Rattle.rules.specs.Rules.{◌∈◌, Pattern}
+use Rattle.rules.specs.Rules.{◌∈◌, Pattern, Rule}
 use Rattle.rules.specs.Books.{BookMeaning, base, WellFormedBook}
-use Rattle.rules.specs.Loaded.{code_at, meant, meant_row, term_of}
-use Rattle.rules.proofs.Codes.{term_constant, term_variable}
+use Rattle.rules.specs.Loaded.{Form, meant, Symbolic}
 use Rattle.law.specs.Groups.{Entry, current, group_count}
-use Rattle.law.specs.Runs.{AtRest, Merges, none, more, OpenSpot}
+use Rattle.law.specs.Runs.{AtRest, Clashing, Merges, none, more, OpenSpot}
 use Rattle.law.specs.Stored.{stored, replaced, Held as Fitting}
 use Rattle.law.proofs.Storing.{storing}
 use Rattle.search.specs.declared.spot.Spot.{Spot}
 use Rattle.search.specs.Spots.{Found, Quiet}
 use Rattle.trial.specs.declared.held.Held.{Held}
 use Rattle.trial.specs.Views.{rows_of, shows_of, rows_now, groups_of}
-use Rattle.trial.specs.Merging.{after, MergedOn}
+use Rattle.trial.specs.Merging.{ClashedAt, MergedAt, MergedOn}
 use Rattle.trial.proofs.Opens.{found-open, quiet_rest}
 
--- every term of the starting rows is an entry, whatever codes they hold
-code_entry : (p : Pattern) (row : List Term) (c : ℕ) → row ∈ p → term_of c ∈ row → Entry p (term_of c)
-code_entry p row c m k = go (cases_lt c base)
-  where
-    go : (c < base) ⊎ (base ≤ c) → Entry p (term_of c)
-    go (inl h) = subst (Entry p) (sym (term_constant c h)) h
-    go (inr h) =
-        let e = term_variable c h in
-        subst (Entry p) (sym e) (row, m, subst (λ (t : Term). t ∈ row) e k)
+-- the terms of a form are entries
+entry-of : (p : Pattern) (row : List Term) → row ∈ p → (t : Term) → t ∈ row → Symbolic t → Entry p t
+entry-of p row m (Constant c) k small = small
+entry-of p row m (Variable v) k small = (row, m, k)
 
-pub fitting : (b : BookMeaning) → WellFormedBook b → (l : LoadedRule) → Fitting b.width b.rules (meant l).pattern
-fitting b fits l =
+fitting : (b : BookMeaning) → WellFormedBook b → (width : ℕ) (r : Rule) → Form width r → Fitting b.width b.rules r.pattern
+fitting b fits width r form =
     record {
       rules_fit = fits.rules_fit;
-      entries = λ row m e k.
-          let (i, j, is) = Memᴰ.of_map (meant_row l) (range_with_len 0 l.row_count) m in
-          let (a, b, at) = Memᴰ.of_map (λ j. term_of (code_at l i j)) (range_with_len 0 l.width) (subst (λ (r : List Term). e ∈ r) (sym is) k) in
-          subst (Entry (meant l).pattern) at (code_entry (meant l).pattern row (code_at l i a) m (subst (λ (t : Term). t ∈ row) (sym at) k));
+      entries = λ row m t k. entry-of r.pattern row m t k (form.small row m t k);
     }
 
-module _ (b : BookMeaning) (fits : WellFormedBook b) (h : Held) where
-  -- nothing merged yet
-  pub merged_none : h.clashed ≡ false → MergedOn b.rules h h 0 false
-  merged_none calm =
-      record {
-        is = same;
-        merges = none;
-        less = omega arith;
-      }
-    where
-      same : h ≡ after h h.shown 0 false h.at
-      same =
-          ap (λ (k : ℕ). record { begun = h.begun; target = h.target; shown = h.shown; merges = k; clashed = h.clashed; at = h.at }) (sym (add-zero h.merges))
-          ∙ ap (λ (c : Bool). after h h.shown 0 c h.at) calm
+module _ (b : BookMeaning) (fits : WellFormedBook b) where
+  -- a merge leaves one group less
+  fewer : (h : Held) (shown : List ℕ) (x y : ℕ) → OpenSpot b.rules (current (rows_of h) (stored shown)) x y → base ≤ max x y →
+      group_count (rows_of h) (stored shown) ≡ suc (group_count (rows_of h) (stored (replaced (max x y) (min x y) shown)))
+  fewer h shown x y o l =
+      ∥∥₁_elim h.form (ℕ_set _ _) (λ form. storing.less b.width b.rules (rows_of h) (fitting b fits h.target.width (meant h.target) form) shown x y o l)
 
-  module _ (h' : Held) (m : ℕ) (on : MergedOn b.rules h h' m false) where
-    target_is : h'.target ≡ h.target
-    target_is = ap (λ (k : Held). k.target) on.is
+  pub room : (h : Held) (first turns : ℕ) (s : Spot) → Found (rows_now h) b.rules first turns s → base ≤ max s.one s.other →
+      h.merges + 1 + group_count (rows_of h) (stored (replaced (max s.one s.other) (min s.one s.other) h.shown)) ≤ 64
+  room h first turns s f l = omega (arith, h.few, fewer h h.shown s.one s.other (found-open (rows_now h) b.rules first turns s f) l)
 
-    rows_are : rows_of h' ≡ rows_of h
-    rows_are = ap (λ (l : LoadedRule). (meant l).pattern) target_is
+  module _ (h : Held) where
+    -- nothing merged yet
+    pub merged_none : h.clashed ≡ false → MergedOn b.rules h h 0 false
+    merged_none calm = record { target = refl; count = omega arith; clash = calm; merges = none; less = omega arith }
 
-    pub merges_are : h'.merges ≡ h.merges + m
-    merges_are = ap (λ (k : Held). k.merges) on.is
+    module _ (h' : Held) (m : ℕ) (on : MergedOn b.rules h h' m false) where
+      rows_are : rows_of h' ≡ rows_of h
+      rows_are = ap (λ (l : LoadedRule). (meant l).pattern) on.target
 
-    pub still_open : h'.clashed ≡ false
-    still_open = ap (λ (k : Held). k.clashed) on.is
+      pub spot_open : (first turns : ℕ) (s : Spot) → Found (rows_now h') b.rules first turns s → OpenSpot b.rules (current (rows_of h) (shows_of h')) s.one s.other
+      spot_open first turns s f =
+          subst (λ (p : Pattern). OpenSpot b.rules (current p (shows_of h')) s.one s.other) rows_are
+          (found-open (rows_now h') b.rules first turns s f)
 
-    pub spot_open : (first turns : ℕ) (s : Spot) → Found (rows_now h') b.rules first turns s → OpenSpot b.rules (current (rows_of h) (shows_of h')) s.one s.other
-    spot_open first turns s f =
-        subst (λ (p : Pattern). OpenSpot b.rules (current p (shows_of h')) s.one s.other) rows_are
-        (found-open (rows_now h') b.rules first turns s f)
+      pub rests : (first turns : ℕ) → turns ≡ length b.rules → Quiet (rows_now h') b.rules first turns → AtRest b.rules (rows_of h) (shows_of h')
+      rests first turns all quiet =
+          subst (λ (p : Pattern). AtRest b.rules p (shows_of h')) rows_are
+          (quiet_rest (rows_now h') b.rules first (subst (Quiet (rows_now h') b.rules first) all quiet))
 
-    pub rests : (first turns : ℕ) → turns ≡ length b.rules → Quiet (rows_now h') b.rules first turns → AtRest b.rules (rows_of h) (shows_of h')
-    rests first turns all quiet =
-        subst (λ (p : Pattern). AtRest b.rules p (shows_of h')) rows_are
-        (quiet_rest (rows_now h') b.rules first (subst (Quiet (rows_now h') b.rules first) all quiet))
-
-    -- one merge more
-    module _ (x y at : ℕ) (o : OpenSpot b.rules (current (rows_of h) (shows_of h')) x y) (l : base ≤ max x y) where
-      next : List ℕ
-      next = replaced (max x y) (min x y) h'.shown
-
-      fewer : group_count (rows_of h) (shows_of h') ≡ suc (group_count (rows_of h) (stored (replaced (max x y) (min x y) h'.shown)))
-      fewer = storing.less b.width b.rules (rows_of h) (fitting b fits h.target) h'.shown x y o l
-
-      pub room : h.merges + groups_of h ≤ 64 → h'.merges < 64
-      room few = omega (arith, fewer, on.less, merges_are)
-
-      pub falls : group_count (rows_of h) (stored (replaced (max x y) (min x y) h'.shown)) < group_count (rows_of h) (shows_of h')
-      falls = omega (arith, fewer)
-
-      pub merged_more : (h'' : Held) → h'' ≡ after h' (replaced (max x y) (min x y) h'.shown) 1 h'.clashed at → MergedOn b.rules h h'' (m + 1) false
-      merged_more h'' e =
+      -- one merge more
+      pub merged_more : (first turns : ℕ) (s : Spot) → Found (rows_now h') b.rules first turns s → base ≤ max s.one s.other → (h'' : Held) →
+          MergedAt h' s h'' → MergedOn b.rules h h'' (m + 1) false
+      merged_more first turns s f l h'' next =
+          let o = spot_open first turns s f in
           let one : suc m ≡ m + 1 = omega arith in
-          let sum : h.merges + m + 1 ≡ h.merges + (m + 1) = omega arith in
-          let shown'' = replaced (max x y) (min x y) h'.shown in
-          let made = after h shown'' (m + 1) false at in
-          let step : after h' shown'' 1 h'.clashed at ≡ made =
-          ap (λ (k : Held). after k shown'' 1 k.clashed at) on.is
-          ∙ ap (λ (k : ℕ). record { begun = h.begun; target = h.target; shown = shown''; merges = k; clashed = false; at = at }) sum
-          in
-          let P : Held → Type 0 = λ k. MergedOn b.rules h k (m + 1) false in
-          subst P (sym (e ∙ step)) (
+          let less = fewer h h'.shown s.one s.other o l in
+          let shows = replaced (max s.one s.other) (min s.one s.other) h'.shown in
+          let P : List ℕ → Type 0 = λ shown. Merges b.rules (rows_of h) (shows_of h) (stored shown) (m + 1) in
+          let Q : List ℕ → Type 0 = λ shown. m + 1 + group_count (rows_of h) (stored shown) ≡ groups_of h in
           record {
-            is = refl;
-            merges = subst (λ (k : ℕ). Merges b.rules (rows_of h) (shows_of h) (stored shown'') k) one (more on.merges (storing.pass b.rules (rows_of h) h'.shown x y o l));
-            less = omega (arith, fewer, on.less);
+            target = next.target ∙ on.target;
+            count = omega (arith, next.count, on.count);
+            clash = next.clash ∙ on.clash;
+            merges = subst P (sym next.shown) (subst (λ (k : ℕ). Merges b.rules (rows_of h) (shows_of h) (stored shows) k) one (more on.merges (storing.pass b.rules (rows_of h) h'.shown s.one s.other o l)));
+            less = subst Q (sym next.shown) (omega (arith, less, on.less));
           }
-          )
 
-    pub clashed_on : (at : ℕ) → MergedOn b.rules h (record { begun = h'.begun; target = h'.target; shown = h'.shown; merges = h'.merges; clashed = true; at = at }) m true
-    clashed_on at =
-        record {
-          is = ap (λ (k : Held). record { begun = k.begun; target = k.target; shown = h'.shown; merges = k.merges; clashed = true; at = at }) on.is;
-          merges = on.merges;
-          less = on.less;
-        }
+      pub clashed_on : (s : Spot) (h'' : Held) → ClashedAt h' s h'' → MergedOn b.rules h h'' m true
+      clashed_on s h'' next =
+          let P : List ℕ → Type 0 = λ shown. Merges b.rules (rows_of h) (shows_of h) (stored shown) m in
+          let Q : List ℕ → Type 0 = λ shown. m + group_count (rows_of h) (stored shown) ≡ groups_of h in
+          record {
+            target = next.target ∙ on.target;
+            count = next.count ∙ on.count;
+            clash = next.clash;
+            merges = subst P (sym next.shown) on.merges;
+            less = subst Q (sym next.shown) on.less;
+          }
+
+pub clashing_on : (rules : List Rule) (h h' h'' : Held) (s : Spot) → ClashedAt h' s h'' → OpenSpot rules (current (rows_of h) (shows_of h')) s.one s.other →
+    max s.one s.other < base → Clashing rules (rows_of h) (shows_of h'')
+clashing_on rules h h' h'' s next o constants =
+    subst (λ (shown : List ℕ). Clashing rules (rows_of h) (stored shown)) (sym next.shown)
+    (record { x = s.one; y = s.other; spot = o; constants = constants })

@@ -3,8 +3,9 @@ use Rattle.std.proofs.Common.{◌≡◌, ℕ, ◌+◌, ◌-◌, ◌%◌, ◌<◌
 use native.Mathlib.Nat.{mod-add-mod, add-mod_right}
 use Rattle.std.specs.List.{slice_get}
 use Rattle.std.proofs.lemmas.Bool.{cases_lt}
+use Rattle.std.proofs.lemmas.Option.{slice_get_within}
 use Rattle.rules.specs.Rules.{Relation, Rule}
-use Rattle.rules.proofs.Nths.{nth_member, member_nth, nth_within}
+use Rattle.rules.proofs.Nths.{nth_member, member_nth}
 use Rattle.law.specs.Runs.{OpenSpot}
 use Rattle.search.specs.declared.spot.Spot.{Spot}
 use Rattle.search.specs.Spots.{turned, Found, Quiet}
@@ -45,6 +46,6 @@ turn_of n first i h = go (cases_lt i (first % n))
 pub quiet_rest : (rel : Relation) (rules : List Rule) (first : ℕ) → Quiet rel rules first (length rules) → (x y : ℕ) → OpenSpot rules rel x y → ⊥
 quiet_rest rel rules first quiet x y o =
     let (i, at_i) = member_nth rules o.rule o.listed in
-    let (t, within, is) = turn_of (length rules) first i (nth_within rules i o.rule at_i) in
+    let (t, within, is) = turn_of (length rules) first i (slice_get_within rules i o.rule at_i) in
     let keeps = quiet t within o.rule (subst (λ (k : ℕ). slice_get rules k ≡ Some o.rule) (sym is) at_i) in
     o.differ (sym o.left_is ∙ keeps o.first o.second o.compared o.pair o.paired ∙ o.right_is)

@@ -1,20 +1,36 @@
 -- How merging goes on, by the record.
-use Rattle.std.specs.Prelude.{◌≡◌, ℕ, ◌+◌, ◌<◌, Bool, true, false, List}
+use Rattle.std.specs.Prelude.{◌≡◌, ℕ, ◌+◌, ◌<◌, Bool, true, false, min, max, List}
 use Rattle.rules.specs.Rules.{Rule}
 use Rattle.law.specs.declared.outcome.Stop.{Stop}
 use Rattle.law.specs.declared.outcome.Stop.TheVariants.{Spent, Rest, Clash}
 use Rattle.law.specs.Groups.{group_count}
 use Rattle.law.specs.Runs.{AtRest, Clashing, Merges}
+use Rattle.law.specs.Stored.{replaced}
+use Rattle.search.specs.declared.spot.Spot.{Spot}
 use Rattle.trial.specs.declared.held.Held.{Held}
 use Rattle.trial.specs.Views.{rows_of, shows_of, groups_of}
 
--- the record after m merges more
-abbrev pub after : Held → List ℕ → ℕ → Bool → ℕ → Held
-after h shown m clashed at = record { begun = h.begun; target = h.target; shown = shown; merges = h.merges + m; clashed = clashed; at = at }
+-- h' is h after the merge at this spot
+pub record MergedAt (h : Held) (s : Spot) (h' : Held) : Type 0 where
+  pub target : h'.target ≡ h.target
+  pub shown : h'.shown ≡ replaced (max s.one s.other) (min s.one s.other) h.shown
+  pub count : h'.merges ≡ h.merges + 1
+  pub clash : h'.clashed ≡ h.clashed
+  pub turn : h'.at ≡ s.rule
+
+-- h' is h after a clash at this spot
+pub record ClashedAt (h : Held) (s : Spot) (h' : Held) : Type 0 where
+  pub target : h'.target ≡ h.target
+  pub shown : h'.shown ≡ h.shown
+  pub count : h'.merges ≡ h.merges
+  pub clash : h'.clashed ≡ true
+  pub turn : h'.at ≡ s.rule
 
 -- h' is h after m merges, each of which left one group less
 pub record MergedOn (rules : List Rule) (h h' : Held) (m : ℕ) (clashed : Bool) : Type 0 where
-  pub is : h' ≡ after h h'.shown m clashed h'.at
+  pub target : h'.target ≡ h.target
+  pub count : h'.merges ≡ h.merges + m
+  pub clash : h'.clashed ≡ clashed
   pub merges : Merges rules (rows_of h) (shows_of h) (shows_of h') m
   pub less : m + group_count (rows_of h) (shows_of h') ≡ groups_of h
 

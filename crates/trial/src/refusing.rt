@@ -5,12 +5,11 @@ ghost use Rattle.trial.specs.Faults.{trial_refusal};
 use crate::fault::TrialFault;
 use rules::refusal::{Layer, Refusal};
 
-impl TrialFault {
-    // The refusal as every layer tells it.
-    pub fn refusal(self) -> Refusal
-        ensures { result ≡ trial_refusal self }
-    {
-        let (number, place) = match self {
+impl From<TrialFault> for Refusal {
+    ghost from_gives = { λ fault r. r ≡ trial_refusal fault };
+
+    fn from(fault: TrialFault) -> Refusal {
+        let (number, place) = match fault {
             TrialFault::NotBlank => (10, 0),
             TrialFault::NoRule(rule) => (8, rule),
             TrialFault::WidthsDiffer => (9, 0),

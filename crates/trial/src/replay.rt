@@ -5,7 +5,7 @@ ghost use Rattle.trial.specs.Seen.{seen};
 ghost use Rattle.trial.specs.Replays.{answer_of, asked, Concluded, ReplayedSo};
 
 use crate::finished::Finished;
-use crate::reply::Reply;
+use crate::reply::{Done, Reply};
 use crate::request::Request;
 use crate::trial::Trial;
 use rules::book::Book;
@@ -29,14 +29,14 @@ fn call<B: Book, T: Book>(trial: &mut Trial, book: &B, request: &Request<'_, T>)
     ensures { Steps (B.Book.meaning book.now) (asked T.Book.meaning request.now) (seen trial.old) (answer_of result) (seen trial.new) }
 {
     match request {
-        Request::Start(targets, number) => match trial.start(book, *targets, *number) {
-            Ok(()) => Reply::Done,
-            Err(fault) => Reply::Refused(fault),
-        },
-        Request::Advance(n) => match trial.advance(book, *n) {
-            Ok((made, stop)) => Reply::Made(made, stop),
-            Err(fault) => Reply::Refused(fault),
-        },
+        Request::Start(targets, number) => {
+            trial.start(book, *targets, *number)?;
+            Ok(Done::Started)
+        }
+        Request::Advance(n) => {
+            let (made, stop) = trial.advance(book, *n)?;
+            Ok(Done::Merged(made, stop))
+        }
     }
 }
 
@@ -44,9 +44,10 @@ fn conclude<B: Book>(trial: Trial, book: &B, finish: bool) -> Outcome
     ensures { Concluded (B.meaning book.now) (seen trial) finish result }
 {
     if finish {
-        return Outcome::Finished(trial.finish(book));
+        Outcome::Finished(trial.finish(book))
+    } else {
+        Outcome::Going(trial)
     }
-    Outcome::Going(trial)
 }
 
 // Makes these calls with this book, and finishes the trial if that is asked.
@@ -60,8 +61,8 @@ pub fn replay<B: Book, T: Book>(
 {
     let mut trial = Trial::blank();
     let mut replies = Vec::new(heap);
-    for i in 0..requests.len() {
-        let reply = call(&mut trial, book, &requests[i]);
+    for request in requests {
+        let reply = call(&mut trial, book, request);
         replies.push(reply)?;
     }
     let outcome = conclude(trial, book, finish);

@@ -1,11 +1,12 @@
-// What a call on a trial answered: a plain type with no clause, so that definitions in specs/ may name it.
+// What a call on a trial answered: plain types with no clause, so that definitions in specs/ may name them.
 use crate::fault::TrialFault;
 use law::outcome::Stop;
 
-// A start is done; an advance has made so many merges, and stopped for a reason; either may be refused.
+// It started the trial, or made so many merges, and stopped for a reason.
 #[derive(Clone, Copy, PartialEq, Eq, Debug)]
-pub enum Reply {
-    Done,
-    Made(usize, Stop),
-    Refused(TrialFault),
+pub enum Done {
+    Started,
+    Merged(usize, Stop),
 }
+
+pub type Reply = Result<Done, TrialFault>;

@@ -1,36 +1,23 @@
 // The current rows of a trial: the starting rows as shown.
 ghost use Rattle.std.specs.Prelude.{◌≡◌};
 ghost use Rattle.rules.specs.Rules.{at};
-ghost use Rattle.rules.specs.Loaded.{code_at, term_of};
 ghost use Rattle.law.specs.Stored.{stored};
-ghost use Rattle.trial.specs.Views.{rows_of, current_even, rows_now};
+ghost use Rattle.trial.specs.Views.{current_even, rows_now};
 
 use crate::held::Held;
-use rules::loaded::LoadedRule;
+use rules::term::Term;
 use search::relation::Relation;
 
-// The code in a row and column of the starting rows.
-fn code_at(target: &LoadedRule, row: usize, column: usize) -> u32
-    ensures { result ≡ code_at target.now row column }
-{
-    let Some(codes) = target.rows.get(row) else {
-        return 0;
-    };
-    match codes.codes.get(column) {
-        Some(code) => *code,
-        None => 0,
+impl Held {
+    // What a term shows as: a constant as itself.
+    pub(crate) fn shown_as(&self, term: Term) -> u32
+        ensures { result ≡ at (stored self.now.shown) term }
+    {
+        match term {
+            Term::Constant(number) => number,
+            Term::Variable(symbol) => self.shown.get(symbol as usize).copied().unwrap_or(0),
+        }
     }
-}
-
-// What a code shows as: a constant as itself.
-pub(crate) fn shown_as(held: &Held, code: u32) -> u32
-    ensures { result ≡ at (stored held.now.shown) (term_of code) }
-{
-    if code < 16777216 {
-        return code;
-    }
-    let symbol = (code - 16777216) as usize;
-    if symbol < 64 { held.shown[symbol] } else { 0 }
 }
 
 impl Relation for Held {
@@ -48,7 +35,7 @@ impl Relation for Held {
 
     fn entry(&self, row: usize, column: usize) -> Option<u32> {
         if row < self.target.row_count && column < self.target.width {
-            Some(shown_as(self, code_at(&self.target, row, column)))
+            Some(self.shown_as(self.target.rows[row].terms[column]))
         } else {
             None
         }

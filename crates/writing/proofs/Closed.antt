@@ -1,5 +1,5 @@
 -- An output that is closed holds what was to be written, or nothing.
-use Rattle.std.proofs.Common.{◌≡◌, ℕ, ◌-◌, List, ◌++◌, length, take, replicate, Ok, Err, Result, ap, ◌∙◌, subst, arith}
+use Rattle.std.proofs.Common.{◌≡◌, ℕ, ◌-◌, List, ◌++◌, length, take, replicate, Ok, Err, Result, ap, ◌∙◌, arith}
 use Rattle.pieces.specs.declared.output.Output.{Output}
 use Rattle.pieces.specs.Put.{written, size}
 use Rattle.writing.specs.Fitting.{whole, Writes}
@@ -27,6 +27,3 @@ closes short a b ps (Err e) none f =
         blank = ap (λ n. replicate n 0) f.same.long;
       },
     )
-
-pub as_writes : {E : Type 0} (short : ℕ → E) (n : ℕ) (ps : List (List ℕ)) {r r' : Result ℕ E} {out out' : List ℕ} → r ≡ r' → out ≡ out' → Writes short n ps r out → Writes short n ps r' out'
-as_writes short n ps {r} {r'} {out} {out'} e d w = subst (λ x. Writes short n ps r' x) d (subst (λ x. Writes short n ps x out) e w)

@@ -1,5 +1,4 @@
-pub mod Entries
-pub mod Telling
+pub mod InRow
 pub mod Parted
 pub mod Closed
 pub mod Alike

@@ -12,13 +12,7 @@ pub fn close<E: Copy>(out: &mut Output, put: Result<(), E>) -> Result<usize, E>
     ensures answer { result ≡ closed_answer out.old put }
     ensures places { out.new.places.now ≡ closed_places out.old put }
 {
-    let used = match put {
-        Ok(()) => out.used,
-        Err(_) => 0,
-    };
-    blank_from(out.places, used, 0);
-    match put {
-        Ok(()) => Ok(used),
-        Err(fault) => Err(fault),
-    }
+    let used = put.map(|()| out.used);
+    blank_from(out.places, used.unwrap_or(0), 0);
+    used
 }

@@ -2,7 +2,9 @@
 #![tactic(auto)]
 
 pub mod closing;
+pub mod entries;
 pub mod laws;
+pub mod naming;
 pub mod refused;
 mod refusing;
 pub mod room;

@@ -1,13 +1,12 @@
 // The line of a refusal.
-ghost use Rattle.std.specs.Prelude.{◌≡◌, ℕ, ◌+◌, ◌-◌, ◌<◌, ◌≤◌, List, [], ◌∷◌, ◌++◌, length};
-ghost use Rattle.pieces.specs.Put.{Puts, size, Same};
+ghost use Rattle.std.specs.Prelude.{[], ◌∷◌, length};
+ghost use Rattle.pieces.specs.Put.{Puts};
 ghost use Rattle.writing.specs.Reports.{refusal_text};
 ghost use Rattle.writing.specs.Faults.{short_at};
 ghost use Rattle.writing.specs.Fitting.{Writes};
 
 use crate::closing::close;
 use crate::room::TooShort;
-use pieces::line::put_line;
 use pieces::output::{Output, Short};
 use pieces::piece::Piece;
 use pieces::word::Word;
@@ -16,28 +15,15 @@ use rules::refusal::Refusal;
 fn put_refusal(out: &mut Output, refusal: Refusal) -> Result<(), Short>
     ensures { Puts out.old (refusal_text refusal) result out.new }
 {
-    put_line(
-        out,
+    out.put_line(
         b"",
         &[
             Piece::Fixed(Word::Refused),
-            Piece::Number(refusal.number as usize),
-            Piece::Fixed(Word::of_layer(refusal.layer)),
+            Piece::Number(usize::from(refusal.number)),
+            Piece::Fixed(Word::from(refusal.layer)),
             Piece::Number(refusal.place),
         ],
     )
-}
-
-fn refusal_into(out: &mut Output, refusal: Refusal) -> Result<usize, TooShort>
-    requires { out.old.used ≡ 0 }
-    ensures same { Same out.old out.new }
-    ensures writes { Writes short_at (size out.old) (refusal_text refusal ∷ []) result out.new.places.now }
-{
-    let put = match put_refusal(out, refusal) {
-        Ok(()) => Ok(()),
-        Err(_) => Err(TooShort { place: 0 }),
-    };
-    close(out, put)
 }
 
 // Writes a refusal; it answers the number of bytes.
@@ -48,5 +34,6 @@ pub fn write_refusal(refusal: Refusal, output: &mut [u8]) -> Result<usize, TooSh
         places: output,
         used: 0,
     };
-    refusal_into(&mut out, refusal)
+    let put = put_refusal(&mut out, refusal).map_err(|_| TooShort { place: 0 });
+    close(&mut out, put)
 }

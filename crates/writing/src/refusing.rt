@@ -5,14 +5,14 @@ ghost use Rattle.writing.specs.Faults.{short_refusal};
 use crate::room::TooShort;
 use rules::refusal::{Layer, Refusal};
 
-impl TooShort {
-    pub fn refusal(self) -> Refusal
-        ensures { result ≡ short_refusal self }
-    {
+impl From<TooShort> for Refusal {
+    ghost from_gives = { λ fault refusal. refusal ≡ short_refusal fault };
+
+    fn from(fault: TooShort) -> Refusal {
         Refusal {
             number: 13,
             layer: Layer::Report,
-            place: self.place,
+            place: fault.place,
         }
     }
 }

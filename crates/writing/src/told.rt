@@ -12,7 +12,7 @@ pub trait Told {
     fn rows(&self) -> Option<usize>
         ensures { result ≡ count_of_rows (outcome self.now) };
 
-    // The entry at a row and a column, or none past an end.
+    // The entry at a row and a column, or none past an end: a number, as the entries of a relation are.
     fn entry(&self, row: usize, column: usize) -> Option<u32>
         ensures { result ≡ entry_at (outcome self.now) row column };
 }

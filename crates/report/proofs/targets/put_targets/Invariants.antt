@@ -12,4 +12,4 @@ invariant-loop-i g l =
     let b = g.B.Book.meaning l.book in
     let ts = g.T.Book.meaning l.targets in
     Same l.initial.out l.out
-    × (ts.width ≡ b.width → (os : List Outcome) × (length os ≡ l.i) × EachDue b ts 0 os × Put l.initial.out (whole (target_texts l.text l.names 1 os)) l.out)
+    × (ts.width ≡ b.width → (os : List Outcome) × (length os ≡ l.i) × EachDue b ts 0 os × Put l.initial.out (whole (target_texts l.naming.text.now l.naming.names.now 1 os)) l.out)

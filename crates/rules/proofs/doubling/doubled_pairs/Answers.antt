@@ -1,17 +1,17 @@
-use Rattle.std.proofs.Common.{◌≡◌, refl, arith, length-set}
-use Rattle.rules.specs.Doubled.{copied}
-use Rattle.rules.specs.Loaded.{meant, no_pair, one_at, other_at, term_of}
-use Rattle.rules.proofs.Fills.{filled_more}
+use Rattle.std.proofs.Common.{sym, ◌∙◌, subst, arith}
+use Rattle.std.proofs.lemmas.List.{get_or_append_left, length-take-le}
+use Rattle.rules.specs.declared.term.Term.{Term}
+use Rattle.rules.specs.Books.{Small}
+use Rattle.rules.specs.Loaded.{no_term}
+use Rattle.rules.proofs.Copies.{other_small}
 use Rattle.rules.proofs.doubling.doubled_pairs.Goals as goal
 
-pub copied_code-requires : goal.copied_code-requires
-copied_code-requires c = record { left = c.requires.lefts; code = c.requires.others _ c.loop-k-test.true }
-
-pub loop-k-preserved : goal.loop-k-preserved
-loop-k-preserved c = (
-  simp length-set c.loop-k.invariant.0,
-  filled_more (λ i x. (x.one ≡ one_at c.args.rule.now i) × (term_of x.other ≡ copied (meant c.args.rule.now).left (term_of (other_at c.args.rule.now i)))) no_pair c.loop-k.pairs c.loop-k.k (record { one = one_at c.args.rule.now c.loop-k.k; other = c.copied_code.result }) (omega (arith, c.loop-k.invariant.0, c.requires.pairs)) (refl, c.copied_code.ensures) c.loop-k.invariant.1,
-)
+pub copied-pair-requires : goal.copied-pair-requires
+copied-pair-requires c =
+    let long = length-take-le c.args.rule.now.pair_count c.args.rule.now.pairs (omega arith) in
+    subst (λ (p : Term × Term). Small p.1) (sym (c.loop-pair.invariant.after c.loop-pair.pair-index (omega arith) (omega arith))) (other_small c.args.rule.now c.requires.of c.loop-pair.pair-index (omega arith))
 
 pub returns : goal.returns
-returns c = λ i h. c.loop-k.invariant.1 i (omega arith)
+returns c = λ k h.
+    let long = length-take-le c.args.rule.now.pair_count c.args.rule.now.pairs (omega arith) in
+    get_or_append_left c.loop-pair.pair-items _ (no_term, no_term) k (omega arith) ∙ c.loop-pair.invariant.before k (omega arith)

@@ -1,7 +1,7 @@
-use Rattle.std.proofs.Common.{◌≡◌, ℕ, ◌<◌, length, get_or}
-use Rattle.rules.specs.Doubled.{copied}
-use Rattle.rules.specs.Loaded.{meant, no_pair, one_at, other_at, term_of}
+use Rattle.rules.specs.Loaded.{meant, no_term}
+use Rattle.rules.proofs.Copies.{copied_pair}
+use Rattle.rules.proofs.Fills.{Changed}
 use Rattle.rules.proofs.doubling.doubled_pairs.Given as goal
 
-abbrev pub invariant-loop-k : goal.invariant-loop-k
-invariant-loop-k l = (length l.pairs ≡ 32) × ((i : ℕ) → i < l.k → ((get_or l.pairs i no_pair).one ≡ one_at l.rule i) × (term_of (get_or l.pairs i no_pair).other ≡ copied (meant l.rule).left (term_of (other_at l.rule i))))
+abbrev pub invariant-loop-pair : goal.invariant-loop-pair
+invariant-loop-pair l = Changed (copied_pair (meant l.rule).left) (no_term, no_term) l.rule.pairs l.pair-items l.pair-index

@@ -5,14 +5,14 @@ use Rattle.rules.proofs.Copies.{sized}
 use Rattle.rules.proofs.Forms.{form_doubled}
 use Rattle.rules.proofs.doubling.load_doubled.Goals as goal
 
-pub doubled_of-requires : goal.doubled_of-requires
-doubled_of-requires g c = record { of = c.in-Some.ensures.of_book; sized = sized _ c.in-Some.ensures.of_book }
+pub doubled_of-requires-clause-sized : goal.doubled_of-requires-clause-sized
+doubled_of-requires-clause-sized g c = sized _ c.in_ok-load.ensures.of_book
 
-pub returns-in-Some : goal.returns-in-Some
-returns-in-Some g c =
+pub returns : goal.returns
+returns g c =
     let book = g.B.Book.meaning c.args.book.now in
-    let loaded = c.in-Some.ensures in
-    let l = c.in-Some.loaded in
+    let loaded = c.in_ok-load.ensures in
+    let l = c.in_ok-load.field-0 in
     record {
       rule = meant l;
       there = loaded.is;

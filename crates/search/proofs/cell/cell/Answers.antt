@@ -1,8 +1,6 @@
-use Rattle.search.proofs.Entries.{entry-some, entry-none}
+use Rattle.std.proofs.Common.{unwrap_or, ap, ◌∙◌}
+use Rattle.search.proofs.Entries.{entry_default}
 use Rattle.search.proofs.cell.cell.Goals as goal
 
-pub returns-in-Some : goal.returns-in-Some
-returns-in-Some g c = entry-some (g.R.Relation.meaning c.args.relation.now).rows c.args.row c.args.column _ c.in-Some.ensures
-
-pub returns-in-None : goal.returns-in-None
-returns-in-None g c = entry-none (g.R.Relation.meaning c.args.relation.now).rows c.args.row c.args.column c.in-None.ensures
+pub returns : goal.returns
+returns g c = c.unwrap_or.ensures ∙ ap (λ o. unwrap_or o 0) c.entry.ensures ∙ entry_default (g.R.Relation.meaning c.args.relation.now).rows c.args.row c.args.column

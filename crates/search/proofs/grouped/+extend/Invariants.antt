@@ -3,7 +3,7 @@ use Rattle.search.specs.Seens.{Turn}
 use Rattle.search.proofs.grouped.+extend.Given as goal
 
 abbrev pub decreases-extend : goal.decreases-extend
-decreases-extend g l = l.rule.now.row_count - l.depth
+decreases-extend g l = l.look.now.rule.row_count - l.depth
 
 abbrev pub invariant-loop-m : goal.invariant-loop-m
-invariant-loop-m g l = Turn (g.R.Relation.meaning l.relation).rows l.rule l.plan l.choices l.initial.seen l.seen l.depth l.placing.rows l.m
+invariant-loop-m g l = Turn (g.R.Relation.meaning l.relation).rows l.look.rule l.look.plan l.choices l.initial.scratch.seen l.scratch.seen l.depth l.placing.rows l.m

@@ -14,12 +14,10 @@ returns g c =
     let relation = g.R.Relation.meaning c.args.relation.now in (
       refl,
       refl,
-      refl,
       record {
         sound = c.requires.sound;
         equality = c.requires.kind;
-        same = refl;
-        planned = c.plan_of-plan.ensures;
+        planned = c.plan_of.ensures;
         fitting = λ k h. fitting relation.width relation.rows (g.R.Relation.even c.args.relation.now) k h ∙ sym c.width.ensures ∙ c.if-width-form.false;
       },
     )

@@ -4,6 +4,3 @@ use Rattle.search.proofs.order.in_order.Goals as goal
 
 pub returns : goal.returns
 returns c = record { same = refl; order = in_place c.args.rule.now c.requires.few }
-
-pub returns-then-is_arranged : goal.returns-then-is_arranged
-returns-then-is_arranged c = record { same = refl; order = c.is_arranged.ensures c.if-is_arranged.true }

@@ -1,6 +1,6 @@
 use Rattle.std.proofs.Common.{get_or, vec_items, arith}
 use Rattle.std.proofs.lemmas.Option.{slice_get-get_or}
-use Rattle.summary.proofs.Steps.{some_rule, after-step, begins-step, begins-done, after-done}
+use Rattle.summary.proofs.Steps.{some_rule, after-step, begins-step}
 use Rattle.summary.proofs.beginning.push_begins.Goals as goal
 
 pub loop-rule-preserved : goal.loop-rule-preserved
@@ -12,12 +12,3 @@ loop-rule-preserved g c =
       begins-step rules i (omega arith) c.args.what.now c.loop-rule.line c.count_lines-line.result (vec_items c.loop-rule.out) (vec_items c.push_begin.new.out) _ many c.in_ok-push_begin.ensures c.loop-rule.invariant.1,
       omega (arith, c.loop-rule.invariant.2, c.count_lines-line.ensures.few),
     )
-
-pub returns : goal.returns
-returns g c =
-    let book = g.B.Book.meaning c.args.book.now in
-    let few = (g.B.Book.well c.args.book.now).few in
-    record {
-      adds = begins-done c.args.what.now book.rules c.loop-rule.rule c.loop-rule.line (vec_items c.loop-rule.out) _ (omega arith) c.loop-rule.invariant.1;
-      next = (after-done book.rules c.loop-rule.rule c.loop-rule.line _ (omega arith) c.loop-rule.invariant.0, omega (arith, few, c.loop-rule.invariant.2));
-    }

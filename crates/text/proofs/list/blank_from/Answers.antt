@@ -1,19 +1,25 @@
-use Rattle.std.proofs.Common.{◌≡◌, ◌+◌, ◌-◌, [], ◌∷◌, ◌++◌, length, take, replicate, sym, ap, ◌∙◌, arith}
-use Rattle.std.proofs.lemmas.List.{take_more_set, take_all, replicate_more, append_assoc, append-nil}
+use Rattle.std.proofs.Common.{◌≡◌, ℕ, [], ◌∷◌, refl, subst, ◌-◌, List, ◌++◌, min, length, take, drop, replicate, ap, ◌∙◌, append-nil, arith, rules, length-take, length-drop}
+use borrow.Rule.Slice.PartMut.{put_mid}
+use Rattle.std.specs.List.{FoldsTo}
+use Rattle.std.proofs.lemmas.List.{take_min, drop_all}
 use Rattle.text.proofs.list.blank_from.Goals as goal
 
-pub loop-i-preserved : goal.loop-i-preserved
-loop-i-preserved g c =
-    let n : c.loop-i.i + 1 - c.args.from ≡ c.loop-i.i - c.args.from + 1 = omega arith in
-    (omega arith, omega arith, take_more_set c.loop-i.places c.loop-i.i c.args.zero (omega arith) ∙ ap (λ xs. xs ++ c.args.zero ∷ []) c.loop-i.invariant.2 ∙ append_assoc (take c.args.from c.args.places.now) (replicate (c.loop-i.i - c.args.from) c.args.zero) (c.args.zero ∷ []) ∙ ap (λ xs. take c.args.from c.args.places.now ++ xs) (replicate_more _ _ ∙ ap (λ k. replicate k c.args.zero) (sym n)))
+-- what is filled by a call that always answers z
+filled : {P A : Type 0} (R : P → A → P → Type 0) (z : A) (f : P) → ((x : A) (q : P) → R f x q → (q ≡ f) × (x ≡ z)) → (xs : List A) (last : P) → FoldsTo R f xs last → xs ≡ replicate (length xs) z
+filled R z f one [] last h = refl
+filled R z f one (x ∷ xs) last (q, step, h) =
+    let s = one x q step in
+    (λ i. s.1 i ∷ filled R z f one xs last (subst (λ p. FoldsTo R p xs last) s.0 h) i)
+
+blanked : {X : Type 0} (xs ys : List X) (from a : ℕ) (z : X) → a ≡ min from (length xs) → length ys ≡ length (take (length xs - a) (drop a xs)) → ys ≡ replicate (length ys) z → put_mid a (length xs - a) xs ys ≡ take from xs ++ replicate (length xs - from) z
+blanked xs ys from a z cut long all =
+    let n : length ys ≡ length xs - from = omega (arith, length-take (length xs - a) (drop a xs), length-drop a xs) in
+    let front = ap (λ k. take k xs) cut ∙ take_min from xs in
+    let none = drop_all (length xs - a) (drop a xs) (omega (arith, length-drop a xs)) in
+    let back = ap (λ zs. ys ++ zs) none ∙ append-nil ys ∙ all ∙ ap (λ k. replicate k z) n in
+    (λ i. front i ++ back i)
 
 pub returns : goal.returns
 returns g c =
-    let e : c.loop-i.i ≡ length c.args.places.now = omega arith in
-    sym (take_all c.loop-i.i c.loop-i.places (omega arith)) ∙ c.loop-i.invariant.2 ∙ ap (λ k. take c.args.from c.args.places.now ++ replicate (k - c.args.from) c.args.zero) e
-
-pub returns-then-from-places : goal.returns-then-from-places
-returns-then-from-places g c =
-    let xs = c.args.places.now in
-    let z : length xs - c.args.from ≡ 0 = omega arith in
-    sym (ap (λ k. take c.args.from xs ++ replicate k c.args.zero) z ∙ append-nil (take c.args.from xs) ∙ take_all c.args.from xs (omega arith))
+    let all = filled _ c.args.zero _ (λ x q k. search rules) c.fill_with.new.self _ c.fill_with.ensures.ran.1 in
+    blanked c.args.places.now c.fill_with.new.self c.args.from c.min-from.result c.args.zero c.min-from.ensures c.fill_with.ensures.len all

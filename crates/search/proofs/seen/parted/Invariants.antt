@@ -1,9 +1,0 @@
-use Rattle.std.proofs.Common.{◌≡◌, ℕ, ◌<◌}
-use Rattle.rules.specs.Loaded.{one_at}
-use Rattle.search.specs.Placings.{filled, value}
-use Rattle.search.proofs.seen.parted.Given as goal
-
-abbrev pub invariant-loop-pair : goal.invariant-loop-pair
-invariant-loop-pair g l =
-    let rel = (g.R.Relation.meaning l.relation).rows in
-    (k : ℕ) → k < l.pair → value (filled rel l.plan l.a.rows) (one_at l.rule k) ≡ value (filled rel l.plan l.b.rows) (one_at l.rule k)
