@@ -41,6 +41,40 @@ def note(point, name, number, what):
     FOUND[point].append(f"{name}:{number}: {what.strip()[:110]}")
 
 
+# A line with such a shape, unless it has one of these words too, is a candidate of this point.
+LINES = [
+    ("1 a fault as an Option", [r"-> Option<\w*Fault>"], []),
+    (
+        "1 a number that tells two kinds apart",
+        [r"([<>=+-] 16_?777_?2\d\d|16_?777_?2\d\d [<>=+-])|const \w+: u32 = 16_?777_?2"],
+        [r"^\s*(requires|ensures|ghost|/)", r"rt;", r"rules\["],
+    ),
+    ("1 a number for a kind", [r"\bkind: u32\b|\bkind == \d|\] == 1\b"], [r"rules\["]),
+    ("1 a number for a refusal", [r"\(u8, usize\)|cause: u8|fn number\(|number: u8"], []),
+    (
+        "1 an arm that ?, map or the like has",
+        [
+            r"^\s*(None => (None|return None|0|Ok\(\(\)\)|Err\(.*)[,;]?$|Some\(\w+\) => (Some|Ok)\(.*\),$|Err\((\w+|_)\) => (return )?(Err\(.*|0|false|true|None|\{\})[,;]?$|Ok\((\w+|\(\))\) => (Ok\(\w*\(?\)?\)|\w+|\{\}),$|None => \{\}$|Some\(_\) => false,|return None;$)",
+            r"\blet (Some|Ok)\(.*else \{$",
+        ],
+        [],
+    ),
+    ("3 a while", [r"^\s*while (?!let )"], []),
+    ("3 a while let", [r"^\s*while let "], []),
+    (
+        "4 a conversion, a comparison or a printing with a name of its own",
+        [r"^\s*(pub(\(\w+\))? )?(const )?fn (refusal|number|bytes|name|keyword|kind_text|kind_word|kind_of|term_of|code_of|of_layer|set_of|same_word|same_row|print_refusal)\b"],
+        [],
+    ),
+    (
+        "4 an arm that gives a word or a number of a variant",
+        [r"^\s*\w+::\w+(\([^)]*\))? => b?\"", r"^\s*\w+::\w+ => \d+,"],
+        [],
+    ),
+    ("7 a function pointer", [r"\bfn\((?!.*\bfn \w)"], []),
+]
+
+
 def bare(line):
     return line.split("//")[0]
 
@@ -98,22 +132,9 @@ for name, text in TREE:
     lines = text.split("\n")
     for number, line in enumerate(lines, 1):
         code = bare(line)
-        if re.search(r"-> Option<\w*Fault>", code):
-            note("1 a fault as an Option", name, number, line)
-        if re.search(r"([<>=+-] 16_?777_?2\d\d|16_?777_?2\d\d [<>=+-])|const \w+: u32 = 16_?777_?2", code) and not re.match(r"\s*(requires|ensures|ghost|/)", code) and "rt;" not in code and "rules[" not in code:
-            note("1 a number that tells two kinds apart", name, number, line)
-        if re.search(r"\bkind: u32\b|\bkind == \d|\] == 1\b", code) and "rules[" not in code:
-            note("1 a number for a kind", name, number, line)
-        if re.search(r"\(u8, usize\)|cause: u8|fn number\(|number: u8", code):
-            note("1 a number for a refusal", name, number, line)
-        if re.search(r"^\s*(None => (None|return None|0|Ok\(\(\)\)|Err\(.*)[,;]?$|Some\(\w+\) => (Some|Ok)\(.*\),$|Err\((\w+|_)\) => (return )?(Err\(.*|0|false|true|None|\{\})[,;]?$|Ok\((\w+|\(\))\) => (Ok\(\w*\(?\)?\)|\w+|\{\}),$|None => \{\}$|Some\(_\) => false,|return None;$)", code):
-            note("1 an arm that ?, map or the like has", name, number, line)
-        if re.search(r"else \{$", code) and re.search(r"\blet (Some|Ok)\(", code):
-            note("1 an arm that ?, map or the like has", name, number, line)
-        if re.search(r"^\s*while (?!let )", code):
-            note("3 a while", name, number, line)
-        if re.search(r"^\s*while let ", code):
-            note("3 a while let", name, number, line)
+        for point, shapes, unless in LINES:
+            if any(re.search(it, code) for it in shapes) and not any(re.search(it, code) for it in unless):
+                note(point, name, number, line)
         m = re.match(r"(\s*)(?:'\w+: )?for (\w+) in (.*)\.\.(.*) \{", code)
         if m:
             index = m.group(2)
@@ -126,12 +147,6 @@ for name, text in TREE:
                 note("3 a for over an index", name, number, line)
             elif re.search(r"\b\w+ [-+]= 1;", "\n".join(body)):
                 note("3 a for with a count beside it", name, number, line)
-        if re.search(r"^\s*(pub(\(\w+\))? )?(const )?fn (refusal|number|bytes|name|keyword|kind_text|kind_word|kind_of|term_of|code_of|of_layer|set_of|same_word|same_row|print_refusal)\b", code):
-            note("4 a conversion, a comparison or a printing with a name of its own", name, number, line)
-        if re.search(r"^\s*\w+::\w+(\([^)]*\))? => b?\"", code) or re.search(r"^\s*\w+::\w+ => \d+,", code):
-            note("4 an arm that gives a word or a number of a variant", name, number, line)
-        if re.search(r"\bfn\((?!.*\bfn \w)", code):
-            note("7 a function pointer", name, number, line)
     for m in re.finditer(r"struct (\w+)[^{;]*\{([^}]*)\}", text):
         fields = re.findall(r"(\w+): ([^,]+),", re.sub(r"//[^\n]*", "", m.group(2)))
         number = text[: m.start()].count("\n") + 1
