@@ -4,5 +4,6 @@ mod Reading
 pub mod Fills
 pub mod Nths
 mod Loads
+mod Codes
 pub mod Copies
 pub mod Forms

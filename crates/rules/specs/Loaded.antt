@@ -1,13 +1,21 @@
 -- The rule that a loaded rule means.
-use Rattle.std.specs.Prelude.{◌≡◌, ℕ, ◌<◌, ◌≤◌, List, [], map, length, Some, None, Option, slice_index, slice_index_or}
+use Rattle.std.specs.Prelude.{◌≡◌, ℕ, ◌-◌, ◌<◌, ◌≤◌, cond, List, [], map, length, Some, None, Option, nat_lt, slice_index, slice_index_or}
 use Rattle.std.specs.List.{range_with_len, slice_get}
 use Rattle.rules.specs.declared.term.Term.{Term}
 use Rattle.rules.specs.declared.term.Term.TheVariants.{Constant, Variable}
 use Rattle.rules.specs.declared.loaded.TermRow.{TermRow}
 use Rattle.rules.specs.declared.loaded.LoadedRule.{LoadedRule}
 use Rattle.rules.specs.Rules.{◌∈◌, Rule}
-use Rattle.rules.specs.Books.{base, BookMeaning, Known, WellFormed}
+use Rattle.rules.specs.Books.{base, BookMeaning, Known, Small, WellFormed}
 use Rattle.rules.specs.Doubled.{doubled}
+
+-- the term of a code
+unfoldable pub term_of : ℕ → Term
+term_of c = cond (nat_lt c base) (Constant c) (Variable (c - base))
+
+-- the code of a term
+abbrev pub Codes : Term → ℕ → Type 0
+Codes t c = Small t → term_of c ≡ t
 
 abbrev pub no_term : Term
 no_term = Constant 0

@@ -2,12 +2,22 @@
 ghost use Rattle.std.specs.Prelude.{◌≡◌, ℕ, ◌<◌, ◌≤◌, length, Some, MatchOption, slice_index_or};
 ghost use Rattle.rules.specs.declared.term.Term.{Term};
 ghost use Rattle.rules.specs.Books.{term_at};
-ghost use Rattle.rules.specs.Loaded.{Filled, Loaded, no_row, no_term};
+ghost use Rattle.rules.specs.Loaded.{Codes, Filled, Loaded, no_row, no_term};
 
 use crate::book::Book;
 use crate::loaded::{LoadedRule, TermRow};
-use crate::term::Term;
+use crate::term::{BASE, Term};
 use std::array;
+
+// The code of a term, one number for either kind: for whoever writes terms down as words of a sheet.
+pub fn code_of(t: Term) -> u32
+    ensures { Codes t result }
+{
+    match t {
+        Term::Constant(c) => c,
+        Term::Variable(v) => BASE + v as u32,
+    }
+}
 
 // A row of a pattern.
 fn load_row<B: Book>(book: &B, rule: usize, row: usize) -> TermRow

@@ -60,6 +60,9 @@ part_below words from to b h k l =
     let n : k < to - from = omega (arith, length-take (to - from) (drop from words)) in
     rw (get_or-take (to - from) (drop from words) k 0 n, get_or-drop from words k 0) (h (from + k) (omega arith) (omega arith))
 
+pub entry_below : (w : ℕ) → is_entry w ≡ true → w < limit
+entry_below w e = ltb-true w limit e
+
 pub listed_below : (rows : List ℕ) (w : ℕ) → ((k : ℕ) → k < length rows → slice_index rows k < limit) → is_listed rows w ≡ true → w < limit
 listed_below rows w h e = has_below rows limit w h (and_parts (nat_le base w) (has rows w) e).1
 
@@ -93,7 +96,7 @@ whole_from words width at e narrow h =
         few_kinds = k.2;
         some_row = n.1;
         few_rows = n.2;
-        entries = λ p a b. ltb-true _ _ (t.1 p a b);
+        entries = λ p a b. entry_below (w p 0) (t.1 p a b);
         few_left = l.2;
         lefts = v.1;
         lefts_from = λ p a b. leb-true _ _ (and_parts (nat_le base (w p 0)) (has rows (w p 0)) (v.1 p a b)).0;
