@@ -23,6 +23,7 @@ impl Held {
         ensures alone { (v : ℕ) → v < 64 → slice_index result.shown v ≡ base + v }
         ensures merges { result.merges ≡ 0 }
         ensures calm { result.clashed ≡ false }
+        ensures first { result.at ≡ 0 }
     {
         Held {
             target,
