@@ -9,22 +9,34 @@ use sheets::sheet::Sheet;
 use spelling::spelled::read;
 use std::io;
 use std::io::{Read, Write};
+use summary::putting::push_name;
 use summary::quoting::{line_numbered, push_shown};
-use summary::telling::{push_books, push_names};
+use summary::telling::push_books;
 use text::list::CAPACITY;
 use text::words::Name;
 use writing::naming::Naming;
+
+// A line is shown in parts of so many bytes, and names are told one by one, so that little is held at a time.
+const PART: usize = 256;
 
 // The refusal, and the line that it names.
 fn refuse(rt: &HostRuntime, text: &[u8], fault: ReadFault) -> io::Result<()> {
     rt.println(Refusal::from(fault))?;
     if fault.line > 0 {
-        let mut shown = Vec::new(rt.alloc());
-        push_shown(&mut shown, line_numbered(text, fault.line).unwrap_or(b""))?;
-        shown.push(b'\n')?;
-        rt.stdout().write_all(shown.as_slice())?;
+        show(rt, line_numbered(text, fault.line).unwrap_or(b""))?;
     }
     Ok(())
+}
+
+// A line, as it is shown.
+fn show(rt: &HostRuntime, line: &[u8]) -> io::Result<()> {
+    let mut shown = Vec::new(rt.alloc());
+    for part in line.chunks(PART) {
+        shown.clear();
+        push_shown(&mut shown, part)?;
+        rt.stdout().write_all(shown.as_slice())?;
+    }
+    println!(rt; "")
 }
 
 // The counts, the constants by number, and the line on which each rule and each target begins.
@@ -37,7 +49,12 @@ fn tell<B: Book>(rt: &HostRuntime, naming: &Naming, book: &B, targets: &B) -> io
         naming.names.len()
     )?;
     let mut told = Vec::new(rt.alloc());
-    push_names(&mut told, naming)?;
+    for (i, name) in naming.names.iter().enumerate() {
+        told.clear();
+        push_name(&mut told, naming.text, i, *name)?;
+        rt.stdout().write_all(told.as_slice())?;
+    }
+    told.clear();
     push_books(&mut told, book, targets)?;
     rt.stdout().write_all(told.as_slice())
 }

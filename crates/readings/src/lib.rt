@@ -68,7 +68,7 @@ pub fn full_sheet(heap: Global, pairs: u32) -> Result<Vec<u8>, AllocError> {
 pub fn spaced(heap: Global, bytes: usize) -> Result<Vec<u8>, AllocError> {
     let mut text = Vec::new(heap);
     text.extend_from_slice(b"width 1\nrules 0\ntargets 0")?;
-    text.resize(bytes, b' ')?;
+    text.resize(bytes.max(25), b' ')?;
     Ok(text)
 }
 
@@ -76,6 +76,9 @@ pub fn spaced(heap: Global, bytes: usize) -> Result<Vec<u8>, AllocError> {
 mod tests {
     use super::*;
     use std::test::Fail;
+    use summary::quoting::push_shown;
+    use summary::telling::push_names;
+    use writing::naming::Naming;
 
     #[test]
     fn lines(rt: HostRuntime) {
@@ -231,6 +234,38 @@ mod tests {
         assert!(rt; targets[0..3] == [2, 0, 0]);
         assert!(rt; names[0].place == 35 && names[0].length == 1);
         assert!(rt; names[1].place == 48 && names[1].length == 1 && names[2] == Name::NONE);
+        Ok(())
+    }
+
+    // A line that is quoted, with a tab, a byte past 0x7E and one past ASCII, where the heap has room.
+    #[test]
+    fn quoted(rt: HostRuntime) -> Result<(), Fail> {
+        let mut out = Vec::new(rt.alloc());
+        push_shown(&mut out, b"a\tb \x7f\xff~")?;
+        assert!(rt; out.as_slice() == b"a?b ??~".as_slice());
+        Ok(())
+    }
+
+    // Names, where the heap has room.
+    #[test]
+    fn named(rt: HostRuntime) -> Result<(), Fail> {
+        let names = [
+            Name {
+                place: 0,
+                length: 4,
+            },
+            Name {
+                place: 5,
+                length: 5,
+            },
+        ];
+        let naming = Naming {
+            text: b"dock press",
+            names: &names,
+        };
+        let mut out = Vec::new(rt.alloc());
+        push_names(&mut out, &naming)?;
+        assert!(rt; out.as_slice() == b"constant 0 dock\nconstant 1 press\n".as_slice());
         Ok(())
     }
 }

@@ -3,7 +3,7 @@
 
 mod beginning;
 pub mod laws;
-mod putting;
+pub mod putting;
 pub mod quoting;
 pub mod summary;
 pub mod telling;

@@ -52,12 +52,7 @@ pub(crate) fn push_head(
 
 // Adds the line of constant i.
 #[tactic(auto, unfolding(crate::specs::Summary::name_text))]
-pub(crate) fn push_name(
-    out: &mut Vec<u8>,
-    text: &[u8],
-    i: usize,
-    name: Name,
-) -> Result<(), AllocError>
+pub fn push_name(out: &mut Vec<u8>, text: &[u8], i: usize, name: Name) -> Result<(), AllocError>
     ensures { OnOk result (out.new.items ≡ out.old.items ++ name_text i (word_in text.now name)) }
 {
     let head = format!(in *out.allocator(); "constant {i} ")?;
