@@ -6,23 +6,23 @@ ghost use Rattle.search.specs.Placings.{Sound, FirstAt, Leaves, Origins, RowsFit
 use rules::loaded::LoadedRule;
 use rules::term::Term;
 
-// A place in a pattern.
+// A place in a pattern. In bytes, as the columns below are: a plan is copied for each look, and looks are many.
 #[derive(Clone, Copy, PartialEq, Eq)]
 pub struct Slot {
-    pub row: usize,
-    pub column: usize,
+    pub row: u8,
+    pub column: u8,
 }
 
 // The columns of a row of a pattern that have to be held against a row of the relation: so many, in an array, since the
 // search runs with fixed memory and no heap.
 #[derive(Clone, Copy)]
 pub struct Tests {
-    pub columns: [usize; 8],
+    pub columns: [u8; 8],
     pub count: usize,
 }
 
 impl Tests {
-    pub(crate) fn columns(&self) -> &[usize]
+    pub(crate) fn columns(&self) -> &[u8]
         requires { self.now.count ≤ 8 }
         ensures front { result.now ≡ take self.now.count self.now.columns }
         ensures long { length result.now ≡ self.now.count }
@@ -57,7 +57,10 @@ fn origins_of(rule: &LoadedRule) -> Plan
         let row = rule.row_count - 1 - m;
         for column in 0..rule.width {
             if let Term::Variable(v) = rule.rows[row].terms[column] {
-                plan.origin[v as usize] = Slot { row, column };
+                plan.origin[v as usize] = Slot {
+                    row: row as u8,
+                    column: column as u8,
+                };
             }
         }
     }
@@ -71,7 +74,10 @@ fn is_own(plan: &Plan, term: Term, row: usize, column: usize) -> bool
 {
     match term {
         Term::Constant(_) => false,
-        Term::Variable(v) => plan.origin[v as usize] == Slot { row, column },
+        Term::Variable(v) => {
+            let slot = plan.origin[v as usize];
+            slot.row as usize == row && slot.column as usize == column
+        }
     }
 }
 
@@ -88,7 +94,7 @@ fn tests_of(rule: &LoadedRule, plan: &Plan, row: usize) -> Tests
     for (column, term) in rule.rows[row].terms[..rule.width].iter().enumerate() {
         if !is_own(plan, *term, row, column) {
             let place = tests.count;
-            tests.columns[place] = column;
+            tests.columns[place] = column as u8;
             tests.count = place + 1;
         }
     }

@@ -54,10 +54,12 @@ impl<R: Relation> Ground<'_, R> {
         requires { Sound self.now.rule.now }
         ensures { result ≡ true → Single (R.meaning self.now.relation.now).rows self.now.rule.now term }
     {
-        slot.row < self.rule.row_count
-            && slot.column < self.rule.width
-            && self.rule.rows[slot.row].terms[slot.column] == term
-            && self.one_value(slot.row, slot.column)
+        let row = slot.row as usize;
+        let column = slot.column as usize;
+        row < self.rule.row_count
+            && column < self.rule.width
+            && self.rule.rows[row].terms[column] == term
+            && self.one_value(row, column)
     }
 
     // Whether the term has one number at most.

@@ -22,7 +22,11 @@ impl<R: Relation> Ground<'_, R> {
             Term::Constant(c) => c,
             Term::Variable(v) => {
                 let slot = self.plan.origin[v as usize];
-                cell(self.relation, placing.row(slot.row), slot.column)
+                cell(
+                    self.relation,
+                    placing.row(slot.row as usize),
+                    slot.column as usize,
+                )
             }
         }
     }
@@ -41,8 +45,9 @@ impl<R: Relation> Ground<'_, R> {
     {
         let row = placing.row(depth);
         for column in self.plan.tests[depth].columns() {
-            let term = self.rule.rows[depth].terms[*column];
-            if self.number_of(placing, term) != cell(self.relation, row, *column) {
+            let column = *column as usize;
+            let term = self.rule.rows[depth].terms[column];
+            if self.number_of(placing, term) != cell(self.relation, row, column) {
                 return false;
             }
         }

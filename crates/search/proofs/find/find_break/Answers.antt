@@ -1,4 +1,4 @@
-use Rattle.std.proofs.Common.{◌%◌, ◌<◌, ◌≤◌, ◌⊎◌, inl, inr, Some, None, ◌∙◌, arith}
+use Rattle.std.proofs.Common.{◌%◌, inl, inr, Some, None, ◌∙◌, arith}
 use Rattle.std.proofs.lemmas.Bool.{cases_lt}
 use Rattle.search.proofs.Begun.{looked_all}
 use Rattle.search.proofs.Rounds.{quiet_less, quiet_first, quiet_all, quiet_more, found_at, none_found}

@@ -1,5 +1,4 @@
 use Rattle.std.proofs.Common.{sym, subst}
-use Rattle.rules.specs.declared.term.Term.TheVariants.{Variable}
 use Rattle.search.specs.Placings.{Single}
 use Rattle.search.proofs.ground.Ground.is_single.Goals as goal
 
